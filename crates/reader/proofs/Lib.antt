@@ -1,0 +1,13 @@
+pub mod Asks
+pub mod ClusterLaws
+pub mod ContentLaws
+pub mod EventLaws
+pub mod Cuts
+pub mod Fronts
+pub mod RecordLaws
+pub mod Records
+pub mod RunLaws
+pub mod Steps
+pub mod Surveys
+pub mod Walk
+pub mod WordLaws
