@@ -1,0 +1,6 @@
+use mathlib.Core.Path.{refl}
+use Rattle.stores.proofs.Rings.{empty-in}
+use Rattle.stores.proofs.index.Index.new.Needs as need
+
+pub returns : need.returns
+returns c = record { lists = λ cells. empty-in _ cells refl; room = c .min .ensures }
