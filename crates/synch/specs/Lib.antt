@@ -1,0 +1,4 @@
+pub mod Laws
+pub mod Packed
+pub mod Status
+pub mod Vote

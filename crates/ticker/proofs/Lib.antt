@@ -1,0 +1,4 @@
+pub mod Follows
+pub mod Hears
+pub mod Judged
+pub mod Locks

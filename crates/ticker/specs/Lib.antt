@@ -1,0 +1,4 @@
+pub mod Laws
+pub mod Range
+pub mod Runs
+pub mod Step
