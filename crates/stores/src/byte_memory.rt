@@ -12,14 +12,14 @@ pub struct ByteMemory<'a> {
 }
 
 impl<'a> ByteMemory<'a> {
-    pub fn new(bytes: &'a mut [u8]) -> ByteMemory<'a>
+    pub(crate) fn new(bytes: &'a mut [u8]) -> ByteMemory<'a>
         ensures { λ r. ⌜ now (r .bytes) ≡ now (bytes .entry) ⌝ }
     {
         ByteMemory { bytes }
     }
 
     // The byte at a place.
-    pub fn get(&self, place: usize) -> u8
+    pub(crate) fn get(&self, place: usize) -> u8
         requires { ⌜ place < length (now (now self .bytes)) ⌝ }
         ensures { λ r. ⌜ r ≡ byte-cell (now (now (self .entry) .bytes)) place ⌝ }
     {
@@ -27,7 +27,7 @@ impl<'a> ByteMemory<'a> {
     }
 
     // Writes a byte at a place.
-    pub fn set(&mut self, place: usize, byte: u8)
+    pub(crate) fn set(&mut self, place: usize, byte: u8)
         requires { ⌜ place < length (now (now self .bytes)) ⌝ }
         ensures cells { λ _. ⌜ Written (byte-cell (now (now (self .entry) .bytes))) (byte-cell (now (now (self .exit) .bytes))) place byte ⌝ }
         ensures long { λ _. ⌜ length (now (now (self .exit) .bytes)) ≡ length (now (now (self .entry) .bytes)) ⌝ }
@@ -36,7 +36,7 @@ impl<'a> ByteMemory<'a> {
     }
 
     // Lays bytes into a stretch of a ring: two pieces at most.
-    pub fn lay(&mut self, stretch: Stretch, bytes: &[u8])
+    pub(crate) fn lay(&mut self, stretch: Stretch, bytes: &[u8])
         requires { ⌜ stretch .first ≤ stretch .place ⌝ ∗ ⌜ stretch .place ≤ stretch .end ⌝ ∗ ⌜ stretch .end ≤ length (now (now self .bytes)) ⌝ ∗ ⌜ stretch .first + length (now bytes) ≤ stretch .end ⌝ }
         ensures cells { λ _. ⌜ Laid (byte-cell (now (now (self .entry) .bytes))) (byte-cell (now (now (self .exit) .bytes))) (stretch .first) (stretch .end) (stretch .place) (now (bytes .entry)) ⌝ }
         ensures long { λ _. ⌜ length (now (now (self .exit) .bytes)) ≡ length (now (now (self .entry) .bytes)) ⌝ }
@@ -50,7 +50,7 @@ impl<'a> ByteMemory<'a> {
     }
 
     // Fills `out` from a stretch of a ring: two pieces at most.
-    pub fn pick(&self, stretch: Stretch, out: &mut [u8])
+    pub(crate) fn pick(&self, stretch: Stretch, out: &mut [u8])
         requires { ⌜ stretch .first ≤ stretch .place ⌝ ∗ ⌜ stretch .place ≤ stretch .end ⌝ ∗ ⌜ stretch .end ≤ length (now (now self .bytes)) ⌝ ∗ ⌜ stretch .first + length (now out) ≤ stretch .end ⌝ }
         ensures cells { λ _. ⌜ Picked (byte-cell (now (now (self .entry) .bytes))) (stretch .first) (stretch .end) (stretch .place) (now (out .exit)) ⌝ }
         ensures long { λ _. ⌜ length (now (out .exit)) ≡ length (now (out .entry)) ⌝ }

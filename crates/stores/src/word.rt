@@ -5,7 +5,7 @@ ghost use Prim.Native.Nat.{ℕ, _<_};
 ghost use Rattle.stores.specs.Cells.{byte-of};
 
 // Byte k of a word.
-pub fn byte_of(word: u32, k: usize) -> u8
+pub(crate) fn byte_of(word: u32, k: usize) -> u8
     requires { ⌜ k < 4 ⌝ }
     ensures { λ r. ⌜ r ≡ byte-of word k ⌝ }
 {
@@ -13,7 +13,7 @@ pub fn byte_of(word: u32, k: usize) -> u8
 }
 
 // A word with another byte k.
-pub fn with_byte(word: u32, k: usize, byte: u8) -> u32
+pub(crate) fn with_byte(word: u32, k: usize, byte: u8) -> u32
     requires { ⌜ k < 4 ⌝ }
     ensures here { λ r. ⌜ byte-of r k ≡ byte ⌝ }
     ensures there { λ r. ⌜ ((j : ℕ) → j < 4 → j ≢ k → byte-of r j ≡ byte-of word j) ⌝ }

@@ -13,14 +13,14 @@ pub struct WordMemory<'a> {
 }
 
 impl<'a> WordMemory<'a> {
-    pub fn new(words: &'a mut [u32]) -> WordMemory<'a>
+    pub(crate) fn new(words: &'a mut [u32]) -> WordMemory<'a>
         ensures { λ r. ⌜ now (r .words) ≡ now (words .entry) ⌝ }
     {
         WordMemory { words }
     }
 
     // The byte at a place.
-    pub fn get(&self, place: usize) -> u8
+    pub(crate) fn get(&self, place: usize) -> u8
         requires { ⌜ place < 4 * length (now (now self .words)) ⌝ }
         ensures { λ r. ⌜ r ≡ word-cell (now (now (self .entry) .words)) place ⌝ }
     {
@@ -28,7 +28,7 @@ impl<'a> WordMemory<'a> {
     }
 
     // Writes a byte at a place.
-    pub fn set(&mut self, place: usize, byte: u8)
+    pub(crate) fn set(&mut self, place: usize, byte: u8)
         requires { ⌜ place < 4 * length (now (now self .words)) ⌝ }
         ensures cells { λ _. ⌜ Written (word-cell (now (now (self .entry) .words))) (word-cell (now (now (self .exit) .words))) place byte ⌝ }
         ensures long { λ _. ⌜ length (now (now (self .exit) .words)) ≡ length (now (now (self .entry) .words)) ⌝ }
@@ -38,7 +38,7 @@ impl<'a> WordMemory<'a> {
     }
 
     // Lays bytes into a stretch of a ring.
-    pub fn lay(&mut self, stretch: Stretch, bytes: &[u8])
+    pub(crate) fn lay(&mut self, stretch: Stretch, bytes: &[u8])
         requires { ⌜ stretch .first ≤ stretch .place ⌝ ∗ ⌜ stretch .place ≤ stretch .end ⌝ ∗ ⌜ stretch .end ≤ 4 * length (now (now self .words)) ⌝ ∗ ⌜ stretch .first + length (now bytes) ≤ stretch .end ⌝ }
         ensures cells { λ _. ⌜ Laid (word-cell (now (now (self .entry) .words))) (word-cell (now (now (self .exit) .words))) (stretch .first) (stretch .end) (stretch .place) (now (bytes .entry)) ⌝ }
         ensures long { λ _. ⌜ length (now (now (self .exit) .words)) ≡ length (now (now (self .entry) .words)) ⌝ }
@@ -55,7 +55,7 @@ impl<'a> WordMemory<'a> {
     }
 
     // Fills `out` from a stretch of a ring.
-    pub fn pick(&self, stretch: Stretch, out: &mut [u8])
+    pub(crate) fn pick(&self, stretch: Stretch, out: &mut [u8])
         requires { ⌜ stretch .first ≤ stretch .place ⌝ ∗ ⌜ stretch .place ≤ stretch .end ⌝ ∗ ⌜ stretch .end ≤ 4 * length (now (now self .words)) ⌝ ∗ ⌜ stretch .first + length (now out) ≤ stretch .end ⌝ }
         ensures cells { λ _. ⌜ Picked (word-cell (now (now (self .entry) .words))) (stretch .first) (stretch .end) (stretch .place) (now (out .exit)) ⌝ }
         ensures long { λ _. ⌜ length (now (out .exit)) ≡ length (now (out .entry)) ⌝ }

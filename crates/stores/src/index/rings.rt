@@ -14,7 +14,7 @@ pub const LARGEST: usize = 2048;
 
 impl Index {
     // Twelve empty rings of a capacity, of 2,048 if that is larger.
-    pub fn new(capacity: usize) -> Index
+    pub(crate) fn new(capacity: usize) -> Index
         ensures lists { λ r. ⌜ ((cells : ℕ → ℕ) → lists-in r cells ≡ empty-lists) ⌝ }
         ensures room { λ r. ⌜ r .capacity ≡ min capacity largest ⌝ }
     {
@@ -25,7 +25,7 @@ impl Index {
         }
     }
 
-    pub fn capacity(&self) -> usize
+    pub(crate) fn capacity(&self) -> usize
         ensures { λ r. ⌜ r ≡ now (self .entry) .capacity ⌝ }
     {
         self.capacity
@@ -88,7 +88,7 @@ impl Index {
     }
 
     // Makes room for `count` bytes on a fibre, and answers where they go.
-    pub fn room_for(&mut self, fibre: usize, count: usize) -> Result<Stretch, Refusal>
+    pub(crate) fn room_for(&mut self, fibre: usize, count: usize) -> Result<Stretch, Refusal>
         ensures { λ r. ⌜ Room-for (now (self .entry)) (now (self .exit)) fibre count r ⌝ }
     {
         let place = self.append(fibre, count)?;
@@ -96,7 +96,7 @@ impl Index {
     }
 
     // Gives up the `count` oldest bytes of a fibre, and answers where they lie.
-    pub fn give_up(&mut self, fibre: usize, count: usize) -> Result<Stretch, Refusal>
+    pub(crate) fn give_up(&mut self, fibre: usize, count: usize) -> Result<Stretch, Refusal>
         ensures { λ r. ⌜ Oldest (now (self .entry)) (now (self .exit)) fibre count r ⌝ }
     {
         let place = self.release(fibre, count)?;
@@ -104,7 +104,7 @@ impl Index {
     }
 
     // How many bytes wait on a fibre.
-    pub fn level(&self, fibre: usize) -> Result<usize, Refusal>
+    pub(crate) fn level(&self, fibre: usize) -> Result<usize, Refusal>
         ensures { λ r. ⌜ ((cells : ℕ → ℕ) → r ≡ fibre-question fibre (Ok (level-of (lists-in (now (self .entry)) cells) fibre))) ⌝ }
     {
         if fibre >= FIBRES {
@@ -114,7 +114,7 @@ impl Index {
     }
 
     // Empties all rings.
-    pub fn clear(&mut self)
+    pub(crate) fn clear(&mut self)
         ensures lists { λ _. ⌜ ((cells : ℕ → ℕ) → lists-in (now (self .exit)) cells ≡ empty-lists) ⌝ }
         ensures room { λ _. ⌜ now (self .exit) .capacity ≡ now (self .entry) .capacity ⌝ }
     {
