@@ -19,7 +19,7 @@ pub enum Question {
 }
 
 // The enabled chips that answer yes.
-pub fn chips(fibres: &[Standing; 12], question: Question) -> u32
+pub(crate) fn chips(fibres: &[Standing; 12], question: Question) -> u32
     requires { ⌜ asked-bit question < 8 ⌝ }
     ensures word { λ r. ⌜ r ≡ chip-word question (now (fibres .entry)) ⌝ }
     ensures counted { λ r. ⌜ ones r ≡ count question (now (fibres .entry)) ⌝ }
