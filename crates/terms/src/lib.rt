@@ -1,5 +1,7 @@
 // The words that every layer shares: how many fibres, chips and strips there are, the two chips of a
 // fibre as a pair, and the numbered refusals.
+#![tactic(auto)]
+
 pub mod enable;
 pub mod fibre;
 pub mod pair;
