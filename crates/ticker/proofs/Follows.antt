@@ -1,14 +1,14 @@
 -- A ticker that is Locked at 0 follows a frame that begins there.
 -- Assumes nothing.
-use Rattle.std.proofs.Common.{◌≡◌, ℕ, zero, suc, ◌+◌, ◌*◌, ◌<◌, ◌≤◌, Bool, true, false, cond, not, ◌&&◌, ◌||◌, eqb, ltb, leb, ◌⊎◌, sym, refl, ap, ◌∙◌, subst, ap₂, inl, inr, arith}
-use Rattle.std.proofs.lemmas.Bool.{lt-leb, lt-ltb, le-ltb, ne_eqb, eq-eqb, eqb-true, eqb-false, cases_lt, both_ways}
+use Rattle.std.proofs.Common.{◌≡◌, ℕ, zero, suc, ◌+◌, ◌<◌, ◌≤◌, Bool, true, false, cond, eqb, ltb, leb, ◌⊎◌, sym, refl, ap, ◌∙◌, inl, inr, arith}
+use Rattle.std.proofs.lemmas.Bool.{lt-leb, lt-ltb, le-ltb, ne_eqb, eqb-true, eqb-false, cases_lt}
 use Rattle.terms.specs.declared.enable.Enable.{Enable}
 use Rattle.terms.specs.declared.enable.Enable.TheVariants as enables
 use Rattle.ticker.specs.declared.header.FrameHeader.{FrameHeader}
 use Rattle.ticker.specs.declared.state.State.{State}
-use Rattle.ticker.specs.declared.state.State.TheVariants.{Off, Hunt, Trial, Locked, Check, Frame}
-use Rattle.ticker.specs.Step.{sent, due, first_due, judged, next, pulses, heard}
-use Rattle.ticker.specs.Runs.{Line, state_after, header_after, pulse_at}
+use Rattle.ticker.specs.declared.state.State.TheVariants.{Hunt, Locked, Check, Frame}
+use Rattle.ticker.specs.Step.{sent, due, judged, next, pulses, heard}
+use Rattle.ticker.specs.Runs.{Line, state_after, pulse_at}
 use Rattle.ticker.specs.Laws.{FrameBegins, in_frame, FollowsAFrame}
 use Rattle.ticker.proofs.Judged.{either_level, same_next, same_pulse}
 

@@ -1,6 +1,6 @@
 -- What a ticker hears of a frame: each enabled chip's header byte and error bit.
 -- Assumes nothing.
-use Rattle.std.proofs.Common.{◌≡◌, ℕ, zero, suc, ◌+◌, ◌-◌, ◌*◌, ◌%◌, ◌<◌, ◌≤◌, Bool, true, false, cond, ◌&&◌, eqb, ltb, leb, sym, refl, ap, ◌∙◌, subst, ap₂, add-suc, arith}
+use Rattle.std.proofs.Common.{◌≡◌, ℕ, zero, suc, ◌+◌, ◌-◌, ◌*◌, ◌%◌, ◌<◌, ◌≤◌, Bool, true, false, cond, ◌&&◌, ltb, leb, refl, ap, ◌∙◌, subst, ap₂, add-suc, arith}
 use Rattle.std.proofs.lemmas.Bool.{lt-leb, both_ways}
 use Rattle.terms.specs.declared.enable.Enable.{Enable}
 use Rattle.terms.specs.declared.enable.Enable.TheVariants as enables
@@ -10,9 +10,9 @@ use Rattle.terms.specs.Terms.{enabled, part, side_number}
 use Rattle.ticker.specs.declared.header.FrameHeader.{FrameHeader}
 use Rattle.ticker.specs.declared.state.State.{State}
 use Rattle.ticker.specs.declared.state.State.TheVariants.{Hunt, Locked, Frame}
-use Rattle.ticker.specs.Step.{sent, due, side_of, judged, next, heard, shifted, with_bit, with_error}
-use Rattle.ticker.specs.Runs.{Line, state_after, header_after}
-use Rattle.ticker.specs.Laws.{FrameBegins, in_frame, bit, byte_from, HearsAFrame}
+use Rattle.ticker.specs.Step.{sent, due, side_of, heard, shifted, with_bit, with_error}
+use Rattle.ticker.specs.Runs.{Line, header_after}
+use Rattle.ticker.specs.Laws.{FrameBegins, bit, byte_from, HearsAFrame}
 use Rattle.ticker.proofs.Follows.{opening, framed, followed}
 
 -- the header after d samples from position 6 on

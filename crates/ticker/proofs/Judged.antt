@@ -1,15 +1,14 @@
 -- A sample is judged exactly if its level matters, and so all that a ticker does depends on the judged samples alone.
 -- Assumes nothing.
-use Rattle.std.proofs.Common.{◌≡◌, ℕ, zero, suc, ◌+◌, ◌*◌, ◌%◌, ◌<◌, ◌≤◌, Bool, true, false, cond, not, ◌&&◌, ◌||◌, eqb, ltb, leb, ◌≢◌, ◌⊎◌, sym, refl, ap, ◌∙◌, subst, ap₂, inl, inr, arith}
+use Rattle.std.proofs.Common.{◌≡◌, ℕ, zero, suc, ◌+◌, Bool, true, false, cond, not, ◌&&◌, ◌||◌, eqb, ltb, ◌≢◌, sym, refl, ap, ◌∙◌, ap₂, arith}
 use Rattle.std.proofs.lemmas.Bool.{and_parts, eqb-true, ltb-true, both_ways}
 use Rattle.terms.specs.declared.enable.Enable.{Enable}
-use Rattle.terms.specs.declared.enable.Enable.TheVariants as enables
 use Rattle.terms.specs.declared.pair.Side.{Side}
 use Rattle.terms.specs.declared.pair.Side.TheVariants.{Left, Right}
 use Rattle.ticker.specs.declared.header.FrameHeader.{FrameHeader}
 use Rattle.ticker.specs.declared.state.State.{State}
 use Rattle.ticker.specs.declared.state.State.TheVariants.{Off, Hunt, Trial, Locked, Check, Frame}
-use Rattle.ticker.specs.Step.{side_of, due, taken_as, first_due, judged, next, pulses, heard, shifted, with_bit, with_error}
+use Rattle.ticker.specs.Step.{side_of, due, first_due, judged, next, pulses, heard, with_bit, with_error}
 use Rattle.ticker.specs.Runs.{Line, state_after, header_after, pulse_at}
 use Rattle.ticker.specs.Laws.{outcome, JudgedAlone, JudgedExactly}
 

@@ -1,12 +1,11 @@
 -- A ticker in Hunt locks on tick marks of period 70, and stays locked while they go on.
 -- Assumes nothing.
-use Rattle.std.proofs.Common.{◌≡◌, ℕ, zero, suc, ◌+◌, ◌-◌, ◌*◌, ◌/◌, ◌%◌, ◌<◌, ◌≤◌, Bool, true, false, cond, not, ◌&&◌, ◌||◌, eqb, ltb, leb, ◌⊎◌, sym, refl, ap, ◌∙◌, subst, ap₂, inl, inr, add-zero, add-suc, add-one, arith}
-use Rattle.std.proofs.lemmas.Bool.{and_parts, or_cases, eqb-true, eqb-false, ltb-true, ne_eqb, eq-eqb, both_ways, cases_eq}
-use Rattle.std.proofs.lemmas.Bool.Decides.{nat_tests}
+use Rattle.std.proofs.Common.{◌≡◌, ℕ, zero, suc, ◌+◌, ◌-◌, ◌%◌, ◌<◌, ◌≤◌, Bool, true, false, cond, not, ◌&&◌, ◌||◌, eqb, ltb, ◌⊎◌, refl, ap, ◌∙◌, subst, inl, inr, add-suc, arith}
+use Rattle.std.proofs.lemmas.Bool.{and_parts, or_cases, eqb-true, eqb-false, ltb-true, ne_eqb, both_ways}
 use Rattle.terms.specs.declared.enable.Enable.{Enable}
 use Rattle.terms.specs.declared.enable.Enable.TheVariants as enables
 use Rattle.ticker.specs.declared.state.State.{State}
-use Rattle.ticker.specs.declared.state.State.TheVariants.{Off, Hunt, Trial, Locked, Check, Frame}
+use Rattle.ticker.specs.declared.state.State.TheVariants.{Hunt, Trial, Locked, Check}
 use Rattle.ticker.specs.Step.{sent, due, taken_as, first_due, judged, next}
 use Rattle.ticker.specs.Runs.{Line, state_after}
 use Rattle.ticker.specs.Laws.{Marks, LocksOnMarks}

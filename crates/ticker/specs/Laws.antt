@@ -3,7 +3,6 @@
 use Rattle.std.specs.Prelude.{◌≡◌, ℕ, ◌+◌, ◌*◌, ◌%◌, ◌<◌, ◌≤◌, Bool, true, false, cond, ◌≢◌, ◌==◌, nat_le, nat_lt}
 use Rattle.terms.specs.declared.enable.Enable.{Enable}
 use Rattle.terms.specs.declared.pair.Side.{Side}
-use Rattle.terms.specs.declared.pair.Side.TheVariants.{Left, Right}
 use Rattle.terms.specs.Terms.{enabled, part, side_number}
 use Rattle.ticker.specs.declared.header.FrameHeader.{FrameHeader}
 use Rattle.ticker.specs.declared.state.State.{State}

@@ -3,7 +3,6 @@
 use Rattle.std.specs.Prelude.{ℕ, ◌+◌, ◌*◌, ◌%◌, Bool, true, false, cond, not, ◌&&◌, ◌||◌, ◌==◌, nat_le, nat_lt}
 use Rattle.terms.specs.declared.enable.Enable.{Enable}
 use Rattle.terms.specs.declared.enable.Enable.TheVariants as enables
-use Rattle.terms.specs.declared.pair.Pair.{Pair}
 use Rattle.terms.specs.declared.pair.Side.{Side}
 use Rattle.terms.specs.declared.pair.Side.TheVariants.{Left, Right}
 use Rattle.terms.specs.Terms.{enabled}

@@ -1,5 +1,7 @@
 // The ticker of a fibre: it finds the tick marks on the line, keeps in step with them, and sees a
 // frame of data begin.
+#![tactic(auto)]
+
 mod due;
 pub mod header;
 pub mod laws;
