@@ -1,5 +1,5 @@
 -- What the types that a writer takes hold is well-formed, and how many bytes it has.
-use Rattle.std.specs.Prelude.{◌≡◌, ℕ, ◌+◌, ◌-◌, ◌*◌, ◌%◌, ◌<◌, ◌≤◌, min, true, List, [], ◌∷◌, ◌++◌, map, length, take, drop, slice_index_or, refl}
+use Rattle.std.specs.Prelude.{◌≡◌, ℕ, ◌+◌, ◌<◌, ◌≤◌, true, List, [], ◌∷◌, map, length, take, drop, slice_index_or, refl}
 use Rattle.std.proofs.Common.{sym, ap, subst, ◌∙◌, arith}
 use Rattle.std.specs.List.{flat_map, AllByRecursion as All}
 use Rattle.std.proofs.lemmas.List.{length-take-le, length-drop}
@@ -9,7 +9,7 @@ use Rattle.layout.specs.declared.suppressed.Suppressed.{Suppressed}
 use Rattle.layout.specs.declared.words.Words.{Words}
 use Rattle.layout.specs.declared.kind.Kind.TheVariants as kinds
 use Rattle.layout.specs.Places.{spaced}
-use Rattle.layout.specs.Event.{Byte, TenBits, Cluster, run_of, ClusterBytes, ContentOk, cluster_bytes}
+use Rattle.layout.specs.Event.{Byte, run_of, ClusterBytes, ContentOk, cluster_bytes}
 use Rattle.layout.specs.Contents.{listed, cluster_on, clusters, suppressed_content, words_content}
 use Rattle.layout.specs.PlacesLemmas.{OnFibre, placed_parts, spaced_head, spaced_tail, on_fibre_all, taken, taken_most}
 use Rattle.layout.specs.LimitsLemmas.{at_most_all}

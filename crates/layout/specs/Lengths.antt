@@ -1,13 +1,12 @@
 -- How long records are.
-use Rattle.std.specs.Prelude.{◌≡◌, ℕ, ◌+◌, ◌*◌, ◌<◌, ◌≤◌, true, List, [], ◌∷◌, ◌++◌, map, length, refl}
-use Rattle.std.proofs.Common.{sym, ap, ◌∙◌, arith}
+use Rattle.std.specs.Prelude.{◌≡◌, ℕ, ◌+◌, ◌*◌, ◌≤◌, true, List, [], ◌∷◌, map, length, refl}
+use Rattle.std.proofs.Common.{arith}
 use Rattle.std.specs.List.{flat_map, AllByRecursion as All}
 use Rattle.std.proofs.lemmas.List.{length-append, length-map}
-use Rattle.terms.specs.declared.pair.Pair.{Pair}
 use Rattle.layout.specs.declared.kind.Kind.{Kind}
 use Rattle.layout.specs.declared.kind.Kind.TheVariants.{ZeroSuppressed, ProcessedRaw, VirginRaw}
 use Rattle.layout.specs.Places.{spaced}
-use Rattle.layout.specs.Event.{Cluster, run_of, ClusterBytes, Content, suppressed, words, ContentOk, shortest, longest, word, cluster_bytes, content_bytes, record_bytes}
+use Rattle.layout.specs.Event.{Cluster, run_of, ClusterBytes, Content, suppressed, words, ContentOk, shortest, longest, word, cluster_bytes, content_bytes}
 use Rattle.layout.specs.Laws.{LengthsInRange, AtMost86Clusters}
 use Rattle.layout.specs.PlacesLemmas.{OnFibre, taken, taken_most, runs_most}
 

@@ -1,6 +1,6 @@
 -- Where clusters may lie on the 256 strips of a fibre: left chip 0 to 127, right chip 128 to 255.
 -- Assumes nothing.
-use Rattle.std.specs.Prelude.{ℕ, ◌+◌, ◌/◌, ◌%◌, Bool, true, not, ◌&&◌, ◌||◌, List, [], ◌∷◌, ◌==◌, nat_le, nat_lt}
+use Rattle.std.specs.Prelude.{◌+◌, ◌/◌, ◌%◌, Bool, true, not, ◌&&◌, ◌||◌, List, [], ◌∷◌, ◌==◌, nat_le, nat_lt}
 use Rattle.layout.specs.declared.run.Run.{Run}
 
 -- a run has at least one strip and lies within its chip

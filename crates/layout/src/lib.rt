@@ -1,4 +1,6 @@
 // The layout of an event as bytes, and the writing of its records.
+#![tactic(auto)]
+
 mod bytes;
 pub mod kind;
 pub mod laws;

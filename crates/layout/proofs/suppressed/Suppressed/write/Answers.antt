@@ -11,6 +11,6 @@ returns c =
     let room : 4 ≤ length c.args.out.now = omega (arith, c.length-length.ensures, c.if-out-length.false) in (
       c.length-length.ensures,
       omega (arith, c.length-length.ensures, c.if-out-length.false),
-      modes_written c.args.out.now c.write-modes.new.out c.write-clusters.new.out s.modes
-          (flat_map cluster_bytes (clusters s)) room c.write-modes.ensures c.write-clusters.ensures,
+      modes_written c.args.out.now c.write_modes.new.out c.write_clusters.new.out s.modes
+          (flat_map cluster_bytes (clusters s)) room c.write_modes.ensures c.write_clusters.ensures,
     )

@@ -1,4 +1,4 @@
-use Rattle.std.proofs.Common.{◌≡◌, ◌+◌, ◌-◌, ◌≤◌, length, take, drop, ap, ◌∙◌, arith}
+use Rattle.std.proofs.Common.{◌≡◌, ◌+◌, ◌-◌, take, drop, ◌∙◌, arith}
 use Rattle.layout.proofs.Writing.{cluster_written}
 use Rattle.layout.proofs.suppressed.write.write_cluster.Goals as goal
 
@@ -8,6 +8,6 @@ returns c =
     let count : c.from-first.result + c.from.result - c.from-first.result ≡ c.args.run.strips = omega arith in
     let first : c.from-first.result ≡ c.args.run.address = c.from-first.ensures in (
       omega arith,
-      cluster_written c.args.out.now values c.args.at _ c.args.run c.copy-from-slice.new.self c.told-values c.requires.0 c.requires.1
-          (c.copy-from-slice.ensures.after ∙ (λ i. take (count i) (drop (first i) values))) (omega arith),
+      cluster_written c.args.out.now values c.args.at _ c.args.run c.copy_from_slice.new.self c.told-values c.requires.0 c.requires.1
+          (c.copy_from_slice.ensures.after ∙ (λ i. take (count i) (drop (first i) values))) (omega arith),
     )

@@ -7,8 +7,8 @@ use Rattle.layout.proofs.words.Words.write_all.Goals as goal
 pub loop-i-init : goal.loop-i-init
 loop-i-init c = refl
 
-pub write-word-requires : goal.write-word-requires
-write-word-requires c = omega (arith, words_length c.args.self.now.list)
+pub write_word-requires : goal.write_word-requires
+write_word-requires c = omega (arith, words_length c.args.self.now.list)
 
 pub loop-i-preserved : goal.loop-i-preserved
 loop-i-preserved c =
@@ -17,7 +17,7 @@ loop-i-preserved c =
     let within : i < length list = omega arith in
     let room : 2 * i + 2 ≤ length c.loop-i.out = omega (arith, words_length list) in
     let next : 2 * (i + 1) ≡ 2 * i + 2 = omega arith in
-    parts_more word list i (2 * i) (2 * (i + 1)) 0 c.loop-i.out c.write-word.new.out _ within room next c.write-word.ensures c.loop-i.invariant
+    parts_more word list i (2 * i) (2 * (i + 1)) 0 c.loop-i.out c.write_word.new.out _ within room next c.write_word.ensures c.loop-i.invariant
 
 pub returns : goal.returns
 returns c =
