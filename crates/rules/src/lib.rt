@@ -1,4 +1,6 @@
 // The common-mode rules: how a chip's common mode is estimated from the values of its strips.
+#![tactic(auto)]
+
 mod fixed;
 mod laws;
 mod mean;

@@ -17,7 +17,7 @@ fn scattered(base: u16, span: u16) -> [u16; 128] {
 fn sorted(list: [u16; 128], length: usize) -> [u16; 128] {
     let mut list = list;
     if length <= 128 {
-        (&mut list[0..length]).sort();
+        list[0..length].sort_unstable();
     }
     list
 }

@@ -3,7 +3,7 @@ use Rattle.std.proofs.lemmas.List.{take_all}
 use Rattle.rules.specs.Bins.{Tallies, bottoms}
 use Rattle.rules.proofs.Bins.{bottom_taken, bottoms_more, bottoms_same}
 use Rattle.rules.proofs.rank.tally_bottoms.Goals as goal
-use Rattle.rules.proofs.rank.tally_bottoms.Goals.{in-Some, in-default}
+use Rattle.rules.proofs.rank.tally_bottoms.Goals.{in-Some, in_default}
 
 pub take-requires : goal.take-requires
 take-requires c =
@@ -12,9 +12,9 @@ take-requires c =
     record { within = within; room = room }
 
 pub loop-v-preserved : goal.loop-v-preserved
-loop-v-preserved c = elim c.match-bottom-bits.branch [
+loop-v-preserved c = elim c.match-bottom_bits.branch [
   | in-Some w ↦ simp w.tally-is (bottoms_more w.take.new.self.counts c.args.values.now c.loop-v.v-index c.args.bin w.in-Some.bits c.loop-v-test.true w.in-Some.ensures (w.take.ensures _ c.loop-v.invariant))
-  | in-default w ↦ simp w.tally-is (bottoms_same c.loop-v.tally.counts c.args.values.now c.loop-v.v-index c.args.bin c.loop-v-test.true w.in-default.ensures c.loop-v.invariant)
+  | in_default w ↦ simp w.tally-is (bottoms_same c.loop-v.tally.counts c.args.values.now c.loop-v.v-index c.args.bin c.loop-v-test.true w.in_default.ensures c.loop-v.invariant)
 ]
 
 pub returns : goal.returns

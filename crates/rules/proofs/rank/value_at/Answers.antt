@@ -5,23 +5,23 @@ use Rattle.rules.proofs.rank.value_at.Goals as goal
 
 pub find-top-requires : goal.find-top-requires
 find-top-requires c =
-    record { some = c.requires.some; enough = top_enough c.tally-tops.result.counts c.args.values.now c.args.position c.requires.within c.requires.ten_bits c.tally-tops.ensures }
+    record { some = c.requires.some; enough = top_enough c.tally_tops.result.counts c.args.values.now c.args.position c.requires.within c.requires.ten_bits c.tally_tops.ensures }
 
-pub overflow-sub-position : goal.overflow-sub-position
-overflow-sub-position c =
-    let (has, before) = c.find-top.ensures.found (tops c.args.values.now) c.tally-tops.ensures in
+pub overflow_sub-position : goal.overflow_sub-position
+overflow_sub-position c =
+    let (has, before) = c.find-top.ensures.found (tops c.args.values.now) c.tally_tops.ensures in
     omega (arith, has.fewer, before)
 
 pub find-bottom-requires : goal.find-bottom-requires
 find-bottom-requires c =
     let vs = c.args.values.now in
-    let (has, before) = c.find-top.ensures.found (tops vs) c.tally-tops.ensures in
-    let (some, enough) = bottom_enough c.tally-bottoms.result.counts vs c.args.position c.find-top.result.bin c.find-top.result.before has before c.tally-bottoms.ensures in
+    let (has, before) = c.find-top.ensures.found (tops vs) c.tally_tops.ensures in
+    let (some, enough) = bottom_enough c.tally_bottoms.result.counts vs c.args.position c.find-top.result.bin c.find-top.result.before has before c.tally_bottoms.ensures in
     record { some = some; enough = enough }
 
 pub returns : goal.returns
 returns c =
     let vs = c.args.values.now in
-    let (has, before) = c.find-top.ensures.found (tops vs) c.tally-tops.ensures in
-    let (left, _) = c.find-bottom.ensures.found (bottoms c.find-top.result.bin vs) c.tally-bottoms.ensures in
+    let (has, before) = c.find-top.ensures.found (tops vs) c.tally_tops.ensures in
+    let (left, _) = c.find-bottom.ensures.found (bottoms c.find-top.result.bin vs) c.tally_bottoms.ensures in
     tallies_value vs c.args.position c.find-top.result.bin c.find-bottom.result.bin c.find-top.result.before c.requires.some c.requires.within c.find-bottom.ensures.within has before left
