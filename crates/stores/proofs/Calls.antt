@@ -1,13 +1,13 @@
 -- What a call of a ring leaves, over any memory: cells before it, cells' after it. Assumes nothing.
-use Rattle.std.proofs.Common.{◌≡◌, ℕ, ◌+◌, ◌*◌, ◌<◌, ◌≤◌, List, [], ◌∷◌, length, get_or, take, Ok, Err, Result, sym, ap, ◌∙◌, ap₂, arith}
+use Rattle.std.proofs.Common.{◌≡◌, ℕ, ◌+◌, ◌*◌, ◌<◌, ◌≤◌, [], ◌∷◌, length, get_or, take, Ok, Err, sym, ap, ◌∙◌, ap₂, arith}
 use Rattle.std.proofs.lemmas.List.{ext_get_or, length-take-le, get_or-take}
 use Rattle.std.proofs.lemmas.List.FromFn.{length-map-range_with_len, get_or-map-range_with_len}
 use Rattle.terms.specs.declared.refusal.Refusal.{Refusal}
 use Rattle.stores.specs.declared.index.Index.{Index}
 use Rattle.stores.specs.declared.stretch.Stretch.{Stretch}
-use Rattle.stores.specs.Store.{waiting, level_of, oldest, appended, without, put_questions, take_questions, answering}
-use Rattle.stores.specs.Cells.{round, Written, Laid, Picked}
-use Rattle.stores.specs.Places.{place, ring, level_at, lists_in, stretch_of, Inside, Appends, Releases, Denied, Granted, Released}
+use Rattle.stores.specs.Store.{put_questions, take_questions}
+use Rattle.stores.specs.Cells.{round}
+use Rattle.stores.specs.Places.{place, ring, level_at, stretch_of, Inside, Appends, Releases, Denied, Granted, Released}
 use Rattle.stores.specs.Sound.{level_in, list_of}
 use Rattle.stores.proofs.Lists.{err_part, answered_by}
 use Rattle.stores.proofs.Rings.{same_index, fits, put_place, put_answer, put_lists, enough, take_place, take_answer, take_lists, take_oldest, round_place, ring_inside, place_below, wrapped_most}

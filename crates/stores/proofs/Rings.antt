@@ -1,15 +1,13 @@
 -- Twelve rings in a row of places: what an append and a release leave. Assumes nothing.
-use Rattle.std.proofs.Common.{◌≡◌, ℕ, suc, ◌+◌, ◌-◌, ◌*◌, ◌/◌, ◌%◌, ◌^◌, ◌<◌, ◌≤◌, Bool, true, false, cond, ltb, leb, ◌≢◌, ◌⊎◌, List, [], ◌∷◌, ◌++◌, map, length, get_or, drop, set, replicate, is_ok, Ok, Err, Result, sym, refl, ap, ◌∙◌, subst, inl, inr, ⊎_elim, le_refl, suc-mul, arith}
+use Rattle.std.proofs.Common.{◌≡◌, ℕ, suc, ◌+◌, ◌-◌, ◌*◌, ◌/◌, ◌<◌, ◌≤◌, ◌≢◌, List, [], ◌++◌, map, length, get_or, drop, set, replicate, Ok, sym, refl, ap, ◌∙◌, ⊎_elim, le_refl, suc-mul, arith}
 use Rattle.std.specs.List.{range_with_len}
-use Rattle.std.proofs.lemmas.List.{same_lists, length-set, length-append, length-drop, get_or-set_same, get_or-set_other, get_or_append_left, get_or-append_right, get_or-drop, get_or_past, get_or-replicate}
+use Rattle.std.proofs.lemmas.List.{same_lists, length-set, length-append, length-drop, get_or-set_same, get_or-set_other, get_or_append_left, get_or-append_right, get_or-drop, get_or-replicate}
 use Rattle.std.proofs.lemmas.List.FromFn.{length-map-range_with_len, get_or-map-range_with_len, fill_by_all}
-use Rattle.std.proofs.lemmas.Bool.{cases_lt, cases_eq, lt-ltb, le-ltb, lt-leb, le-leb}
+use Rattle.std.proofs.lemmas.Bool.{cases_lt, cases_eq, lt-ltb, le-ltb}
 use Rattle.std.proofs.lemmas.Nat.{mul-add-lt, div-mul-add, mul-le}
-use Rattle.terms.specs.declared.refusal.Refusal.{Refusal}
-use Rattle.terms.specs.declared.refusal.Refusal.TheVariants.{NoSuchFibre, StoreFull, StoreEmpty}
 use Rattle.stores.specs.declared.index.Index.{Index}
-use Rattle.stores.specs.Store.{waiting, level_of, empty_lists, appended, without, oldest, put_questions, take_questions, answering}
-use Rattle.stores.proofs.Lists.{ok_parts, err_part, put_fits, take_fits}
+use Rattle.stores.specs.Store.{level_of, empty_lists, appended, without, oldest, put_questions, take_questions}
+use Rattle.stores.proofs.Lists.{ok_parts, put_fits, take_fits}
 use Rattle.stores.specs.Cells.{round}
 use Rattle.stores.specs.Sound.{list_of, length_lists, level_in}
 use Rattle.stores.specs.Places.{wrapped, place, ring, level_at, lists_in, Appends, Releases}

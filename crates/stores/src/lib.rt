@@ -1,4 +1,6 @@
 // Output stores: what a store means, and two that are rings over lent memory.
+#![tactic(auto)]
+
 pub mod both;
 mod byte_memory;
 pub mod byte_ring;

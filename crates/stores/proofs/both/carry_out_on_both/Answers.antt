@@ -1,4 +1,4 @@
-use Rattle.std.proofs.Common.{◌≡◌, length, refl, arith}
+use Rattle.std.proofs.Common.{refl, arith}
 use Rattle.stores.proofs.Runs.{upto_more, upto_all, ran_alike, row_fits}
 use Rattle.stores.proofs.both.carry_out_on_both.Goals as goal
 
@@ -7,8 +7,8 @@ loop-i-init g c = (record { left = refl; same = refl; wrote = refl }, record { l
 
 pub loop-i-preserved : goal.loop-i-preserved
 loop-i-preserved g c =
-    let one = c.carry-out.ensures in
-    let other = c.carry-out-in-loop-i.ensures in
+    let one = c.carry_out.ensures in
+    let other = c.carry_out-in-loop-i.ensures in
     let calls = c.args.calls.now in (
       upto_more _ _ calls c.args.ones.now c.loop-i.i _ _ c.loop-i.ones _ _ _ _ c.loop-i.invariant.0 c.loop-i-test.true (omega arith) one.answer one.lists one.room,
       upto_more _ _ calls c.args.others.now c.loop-i.i _ _ c.loop-i.others _ _ _ _ c.loop-i.invariant.1 c.loop-i-test.true (omega arith) other.answer other.lists other.room,

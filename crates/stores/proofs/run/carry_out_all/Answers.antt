@@ -1,4 +1,4 @@
-use Rattle.std.proofs.Common.{◌≡◌, length, drop, refl, arith}
+use Rattle.std.proofs.Common.{length, drop, refl, arith}
 use Rattle.stores.proofs.Runs.{upto_more, upto_all, row_fits, in_order}
 use Rattle.stores.proofs.run.carry_out_all.Goals as goal
 
@@ -7,7 +7,7 @@ loop-i-init g c = record { left = refl; same = refl; wrote = refl }
 
 pub loop-i-preserved : goal.loop-i-preserved
 loop-i-preserved g c =
-    let did = c.carry-out.ensures in
+    let did = c.carry_out.ensures in
     upto_more _ _ c.args.calls.now c.args.answers.now c.loop-i.i _ _ c.loop-i.answers _ _ _ _ c.loop-i.invariant c.loop-i-test.true (omega arith) did.answer did.lists did.room
 
 pub returns : goal.returns

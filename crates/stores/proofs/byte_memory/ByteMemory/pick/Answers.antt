@@ -9,9 +9,9 @@ returns c =
     let front = c.min-front.result in
     let rest = length c.args.out.now - front in
     record {
-      cells = pieces_picked c.args.self.now.bytes.now c.args.out.now c.copy-from-slice.new.self c.copy-from-slice-2.new.self first c.args.stretch.end place
+      cells = pieces_picked c.args.self.now.bytes.now c.args.out.now c.copy_from_slice.new.self c.copy_from_slice-2.new.self first c.args.stretch.end place
           (front - 0) (place + front - place) (front + rest - front) (first + rest - first) front
-          (omega arith) (omega arith) (omega arith) (omega arith) (omega arith) c.copy-from-slice.ensures.after c.copy-from-slice-2.ensures.after
-          (omega arith) (omega arith) (omega arith) (omega arith) (λ k. omega (arith, c.type-inv.out k));
+          (omega arith) (omega arith) (omega arith) (omega arith) (omega arith) c.copy_from_slice.ensures.after c.copy_from_slice-2.ensures.after
+          (omega arith) (omega arith) (omega arith) (omega arith) (λ k. omega (arith, c.type_inv.out k));
       long = omega arith;
     }

@@ -1,6 +1,6 @@
-use Rattle.std.proofs.Common.{◌≡◌, length, get_or, sym, refl, ap, ◌∙◌, arith}
+use Rattle.std.proofs.Common.{◌≡◌, length, get_or, sym, refl, ◌∙◌, arith}
 use Rattle.std.proofs.lemmas.List.{take_all}
-use Rattle.stores.specs.Cells.{round, word_cell, Laid}
+use Rattle.stores.specs.Cells.{round, word_cell}
 use Rattle.stores.proofs.Round.{at_first, at_next, round_below, laid_none, laid_more}
 use Rattle.stores.proofs.word_memory.WordMemory.lay.Goals as goal
 use Rattle.stores.proofs.word_memory.WordMemory.lay.Goals.{then-at-end, else-at-end}
