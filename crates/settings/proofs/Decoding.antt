@@ -1,6 +1,6 @@
 -- What becomes of a word, from the facts about its fields that a decoder finds out.
 -- Assumes nothing.
-use Rattle.std.proofs.Common.{◌≡◌, ℕ, ◌<◌, ◌≤◌, Bool, true, false, ◌&&◌, ◌||◌, eqb, ltb, leb, IsErrAnd, Ok, Err, Result, sym, refl, ap, ◌∙◌}
+use Rattle.std.proofs.Common.{◌≡◌, ℕ, ◌<◌, ◌≤◌, Bool, true, false, ◌&&◌, ◌||◌, eqb, leb, IsErrAnd, Ok, Err, Result, sym, refl, ap, ◌∙◌}
 use Rattle.std.proofs.lemmas.Bool.{and_parts, and_from, and_left, and_right, or_from, eq-eqb, ne_eqb, lt-ltb, le-ltb, leb-true, cond-true, cond-false}
 use Rattle.terms.specs.declared.enable.Enable.{Enable}
 use Rattle.terms.specs.declared.fibre.Fibre.{Fibre}
@@ -8,7 +8,6 @@ use Rattle.terms.specs.declared.pair.Side.{Side}
 use Rattle.terms.specs.declared.refusal.Refusal.{Refusal}
 use Rattle.terms.specs.declared.refusal.Refusal.TheVariants.{UnknownSetting, NoSuchFibre, UnusedBits, UnknownMode, ThresholdOrder}
 use Rattle.settings.specs.declared.mode.Mode.{Mode}
-use Rattle.settings.specs.declared.mode.Mode.TheVariants.{ZeroSuppression, ProcessedRaw, VirginRaw}
 use Rattle.settings.specs.declared.parts.Pedestal.{Pedestal}
 use Rattle.settings.specs.declared.parts.Thresholds.{Thresholds}
 use Rattle.settings.specs.declared.parts.TickThreshold.{TickThreshold}
@@ -16,7 +15,7 @@ use Rattle.settings.specs.declared.setting.Setting.{Setting}
 use Rattle.settings.specs.declared.setting.Setting.TheVariants as settings
 use Rattle.settings.specs.Fields.{bits, flag, kind, fibre_field, mode_field, thresh1_field, thresh2_field}
 use Rattle.settings.specs.Order.{in_order}
-use Rattle.settings.specs.Words.{decoded, enable_from, side_from, mode_from, mode_setting, tick_setting, pedestal_setting, thresholds_setting, rank_setting, threshold_from, pedestal_from}
+use Rattle.settings.specs.Words.{decoded, enable_from, side_from, mode_from, tick_setting, pedestal_setting, thresholds_setting, rank_setting, threshold_from, pedestal_from}
 use Rattle.settings.proofs.Asked.{ask, decoded_unknown, decoded_mode, decoded_tick, decoded_pedestal, decoded_thresholds, decoded_rank}
 use Rattle.settings.proofs.Ranges.{same_fibre, same_threshold, same_pedestal, same_thresholds, within}
 

@@ -17,11 +17,11 @@ use Rattle.settings.specs.declared.parts.Thresholds.{Thresholds}
 use Rattle.settings.specs.declared.parts.TickThreshold.{TickThreshold}
 use Rattle.settings.specs.declared.setting.Setting.{Setting}
 use Rattle.settings.specs.declared.setting.Setting.TheVariants as settings
-use Rattle.settings.specs.Fields.{bits, flag, bit, kind, fibre_field, mode_field, thresh1_field, thresh2_field}
+use Rattle.settings.specs.Fields.{bits, bit, kind, fibre_field, mode_field, thresh1_field, thresh2_field}
 use Rattle.settings.specs.Modes.{mode_number}
 use Rattle.settings.specs.Order.{in_order}
-use Rattle.settings.specs.Words.{decoded, word_of, mode_from, enable_from, side_from, fibre_if, fibre_from, thresholds_if, thresholds_from, mode_setting, tick_setting, pedestal_setting, thresholds_setting, rank_setting}
-use Rattle.settings.proofs.Asked.{ask, decoded_unknown, decoded_mode, decoded_tick, decoded_pedestal, decoded_thresholds, decoded_rank}
+use Rattle.settings.specs.Words.{decoded, word_of, mode_from, enable_from, side_from, fibre_if, fibre_from, thresholds_if, mode_setting, tick_setting, pedestal_setting, thresholds_setting, rank_setting}
+use Rattle.settings.proofs.Asked.{ask, decoded_mode, decoded_tick, decoded_pedestal, decoded_thresholds, decoded_rank}
 use Rattle.settings.proofs.Decoding.{unknown, mode_taken, tick_taken, pedestal_taken, thresholds_taken, rank_taken}
 
 -- the numbers of enables, sides and flags, and back

@@ -1,6 +1,6 @@
 -- The settings of a card: what a card that was just made has, and what each setting changes.
 -- Assumes nothing.
-use Rattle.std.specs.Prelude.{ℕ, Bool, false, cond, List, replicate, slice_index_or, slice_set}
+use Rattle.std.specs.Prelude.{ℕ, Bool, false, replicate, slice_index_or, slice_set}
 use Rattle.terms.specs.declared.enable.Enable.{Enable}
 use Rattle.terms.specs.declared.enable.Enable.TheVariants.{Neither}
 use Rattle.terms.specs.declared.fibre.Fibre.{Fibre}

@@ -1,4 +1,6 @@
 // Setting words: what each says, which are refused, and the settings that they change.
+#![tactic(auto)]
+
 pub mod apply;
 pub mod card;
 pub mod fibre;

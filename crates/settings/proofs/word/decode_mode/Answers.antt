@@ -1,8 +1,6 @@
 -- A word of kind 1: its unused bits, then its mode.
 -- Assumes nothing.
-use Rattle.std.proofs.Common.{sym, refl, ◌∙◌, arith}
-use Rattle.terms.specs.declared.refusal.Refusal.TheVariants.{NoSuchFibre}
-use Rattle.settings.specs.Words.{decoded}
+use Rattle.std.proofs.Common.{sym, refl, arith}
 use Rattle.settings.proofs.Decoding.{mode_unused, mode_unknown, mode_taken}
 use Rattle.settings.proofs.word.decode_mode.Goals as goal
 
@@ -18,5 +16,5 @@ returns-in-10 c = mode_taken c.args.word 10 _ c.requires (omega arith) (omega ar
 pub returns-in-18 : goal.returns-in-18
 returns-in-18 c = mode_taken c.args.word 18 _ c.requires (omega arith) (omega arith) refl refl
 
-pub returns-in-default : goal.returns-in-default
-returns-in-default c = sym (mode_unknown c.args.word c.requires (omega arith) (omega arith) (omega arith) (omega arith))
+pub returns-in_default : goal.returns-in_default
+returns-in_default c = sym (mode_unknown c.args.word c.requires (omega arith) (omega arith) (omega arith) (omega arith))

@@ -1,6 +1,6 @@
 -- Each setting's word, which stands for it.
 -- Assumes nothing.
-use Rattle.std.proofs.Common.{arith, rules}
+use Rattle.std.proofs.Common.{rules}
 use Rattle.settings.specs.declared.setting.Setting.TheVariants as settings
 use Rattle.settings.proofs.Roundtrip.{with_word, mode_word, tick_word, pedestal_word, thresholds_word, rank_word}
 use Rattle.settings.proofs.setting.Setting.encode.Goals as goal
