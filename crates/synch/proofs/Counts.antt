@@ -1,8 +1,8 @@
 -- The ones of a word of chips are the chips that answer yes.
 -- Assumes nothing.
-use Rattle.std.proofs.Common.{◌≡◌, ℕ, zero, suc, ◌+◌, ◌-◌, ◌*◌, ◌^◌, ◌<◌, ◌≤◌, Bool, true, false, cond, ltb, List, [], ◌∷◌, length, drop, sym, refl, ap, ◌∙◌, ap₂, add_comm, zero-add, arith}
+use Rattle.std.proofs.Common.{◌≡◌, ℕ, ◌+◌, ◌-◌, ◌*◌, ◌<◌, ◌≤◌, Bool, true, false, ltb, List, [], ◌∷◌, length, drop, sym, refl, ap, ◌∙◌, ap₂, add_comm, zero-add, arith}
 use mir.Val.{bool_byte}
-use lib.Count.{ones, ones_in, ones_cat}
+use lib.Count.{ones, ones_cat}
 use Rattle.std.proofs.lemmas.List.FromFn.{get_or-range_with_len}
 use Rattle.terms.specs.declared.pair.Side.TheVariants.{Left, Right}
 use Rattle.synch.specs.declared.chips.Question.{Question}

@@ -1,6 +1,6 @@
 -- The majority header is that of voters who agree, and of voters alone.
 -- Assumes nothing.
-use Rattle.std.proofs.Common.{◌≡◌, ℕ, zero, suc, ◌+◌, ◌*◌, ◌/◌, ◌%◌, ◌^◌, ◌<◌, ◌≤◌, Bool, true, false, cond, ◌&&◌, eqb, ltb, List, [], ◌∷◌, sym, refl, ap, ◌∙◌, subst, ap₂, arith}
+use Rattle.std.proofs.Common.{◌≡◌, ℕ, ◌+◌, ◌*◌, ◌/◌, ◌%◌, ◌^◌, ◌<◌, Bool, true, false, cond, ◌&&◌, eqb, ltb, List, [], ◌∷◌, sym, refl, ap, ◌∙◌, ap₂, arith}
 use mathlib.Core.Path.{fun_ext}
 use Rattle.std.proofs.ByRecursion.{All-weaker}
 use Rattle.std.proofs.lemmas.Bool.{lt-ltb, le-ltb, eqb-true, eqb-false, both_ways}
@@ -9,10 +9,10 @@ use Rattle.terms.specs.declared.pair.Side.{Side}
 use Rattle.terms.specs.declared.pair.Side.TheVariants.{Left, Right}
 use Rattle.terms.specs.Terms.{part}
 use Rattle.synch.specs.declared.chips.Question.{Question}
-use Rattle.synch.specs.declared.chips.Question.TheVariants.{InLock, InStep, HeaderBit}
+use Rattle.synch.specs.declared.chips.Question.TheVariants.{InStep, HeaderBit}
 use Rattle.synch.specs.declared.standing.Standing.{Standing}
 use Rattle.synch.specs.Packed.{packed}
-use Rattle.synch.specs.Vote.{votes, bit_of, holds, one_if, yes_of, count, header_bit, bits, majority_header}
+use Rattle.synch.specs.Vote.{votes, bit_of, holds, one_if, yes_of, count, header_bit, bits}
 use Rattle.synch.specs.Laws.{Agree, AgreedHeader, SameVotes, OnlyVotersCount}
 
 -- a chip that answers as it votes, if it votes and the other test agrees

@@ -1,5 +1,7 @@
 // What twelve fibres say together: whether an event begins, the header that its chips vote for, and
 // the status of each fibre.
+#![tactic(auto)]
+
 mod chips;
 pub mod laws;
 pub mod majority;

@@ -6,11 +6,11 @@ use Rattle.synch.proofs.Counts.{chip_bits_lt, word_room, ones_count}
 use Rattle.synch.proofs.Packed.{packed_again}
 use Rattle.synch.proofs.chips.chips.Goals as goal
 
-pub overflow-mul-word : goal.overflow-mul-word
-overflow-mul-word c = omega (arith, word_room c.args.question c.args.fibres.now c.loop-f.f c.loop-f.word c.told-fibres c.loop-f-test.true c.loop-f.invariant)
+pub overflow_mul-word : goal.overflow_mul-word
+overflow_mul-word c = omega (arith, word_room c.args.question c.args.fibres.now c.loop-f.f c.loop-f.word c.told-fibres c.loop-f-test.true c.loop-f.invariant)
 
-pub overflow-add-word : goal.overflow-add-word
-overflow-add-word c =
+pub overflow_add-word : goal.overflow_add-word
+overflow_add-word c =
     omega (
       arith,
       word_room c.args.question c.args.fibres.now c.loop-f.f c.loop-f.word c.told-fibres c.loop-f-test.true c.loop-f.invariant,

@@ -1,12 +1,12 @@
-use Rattle.std.proofs.Common.{true, false, arith}
+use Rattle.std.proofs.Common.{arith}
 use Rattle.synch.proofs.Counts.{byte_room, byte_again, bool_byte-below}
 use Rattle.synch.proofs.majority.majority_header.Goals as goal
 
-pub overflow-mul-header : goal.overflow-mul-header
-overflow-mul-header c = omega (arith, byte_room c.args.fibres.now c.loop-bit.bit c.loop-bit.header c.loop-bit-test.true c.loop-bit.invariant)
+pub overflow_mul-header : goal.overflow_mul-header
+overflow_mul-header c = omega (arith, byte_room c.args.fibres.now c.loop-bit.bit c.loop-bit.header c.loop-bit-test.true c.loop-bit.invariant)
 
-pub overflow-add-header : goal.overflow-add-header
-overflow-add-header c =
+pub overflow_add-header : goal.overflow_add-header
+overflow_add-header c =
     omega (
       arith,
       byte_room c.args.fibres.now c.loop-bit.bit c.loop-bit.header c.loop-bit-test.true c.loop-bit.invariant,

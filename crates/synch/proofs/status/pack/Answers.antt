@@ -5,11 +5,11 @@ use Rattle.synch.specs.Status.{status_word}
 use Rattle.synch.proofs.Halves.{half_room, half_lt, half_again}
 use Rattle.synch.proofs.status.pack.Goals as goal
 
-pub overflow-mul-word : goal.overflow-mul-word
-overflow-mul-word c = omega (arith, half_room c.args.header c.args.fibres.now c.loop-f.f c.loop-f.word c.requires c.loop-f-test.true c.loop-f.invariant)
+pub overflow_mul-word : goal.overflow_mul-word
+overflow_mul-word c = omega (arith, half_room c.args.header c.args.fibres.now c.loop-f.f c.loop-f.word c.requires c.loop-f-test.true c.loop-f.invariant)
 
-pub overflow-add-word : goal.overflow-add-word
-overflow-add-word c =
+pub overflow_add-word : goal.overflow_add-word
+overflow_add-word c =
     omega (
       arith,
       half_room c.args.header c.args.fibres.now c.loop-f.f c.loop-f.word c.requires c.loop-f-test.true c.loop-f.invariant,
