@@ -6,7 +6,7 @@ use Rattle.std.proofs.lemmas.List.{take_at, nil_from_length}
 use Rattle.std.proofs.ByRecursion.{All-drop}
 use Rattle.std.specs.List.{flat_map, AllByRecursion as All}
 use Rattle.layout.specs.declared.kind.Kind.{Kind}
-use Rattle.layout.specs.Event.{Byte, Content, ContentOk, Event, EventOk, code, record_bytes, bytes_of}
+use Rattle.layout.specs.Event.{Byte, Content, ContentOk, Event, EventOk, record_bytes, bytes_of}
 use Rattle.faults.specs.declared.fault.EventFault.{EventFault}
 use Rattle.faults.specs.declared.fault.EventFault.TheVariants as events
 use Rattle.reader.specs.Questions.{ok_map, and_then, ask, number_in, kind_of, Walked, read_records, known_kind, event_from, read_first}

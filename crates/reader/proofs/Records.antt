@@ -1,11 +1,10 @@
 -- Records one after the other are cut where they were joined.
 -- Assumes nothing.
-use Rattle.std.proofs.Common.{◌≡◌, ℕ, ◌+◌, ◌-◌, ◌/◌, ◌%◌, ◌<◌, ◌≤◌, min, List, [], ◌∷◌, ◌++◌, length, get_or, take, drop, Some, sym, refl, ap, ◌∙◌, arith, length-append}
+use Rattle.std.proofs.Common.{◌≡◌, ℕ, ◌+◌, ◌-◌, ◌<◌, min, List, [], ◌++◌, length, get_or, take, drop, Some, sym, ap, ◌∙◌, arith, length-append}
 use Rattle.std.proofs.ByRecursion.{All-get_or}
 use Rattle.std.proofs.lemmas.List.{take_at, drop_at, drop_more}
 use Rattle.std.proofs.lemmas.Option.{slice_get-get_or}
 use Rattle.std.specs.List.{slice_get, flat_map}
-use Rattle.layout.specs.declared.kind.Kind.{Kind}
 use Rattle.layout.specs.Event.{Content, words, ContentOk, Event, content_bytes, record_bytes}
 use Rattle.reader.specs.Asked.{Cut, HasContent}
 use Rattle.reader.specs.Laws.{StandsFor}

@@ -1,16 +1,15 @@
 -- The walk over a stored run, event by event.
 -- Assumes nothing.
-use Rattle.std.proofs.Common.{◌≡◌, ℕ, suc, ◌+◌, ◌<◌, ◌≤◌, List, [], ◌∷◌, ◌++◌, length, take, drop, Some, None, Ok, Err, Option, sym, refl, ap, ◌∙◌, subst, arith, length-append, length-drop, take-append-drop}
-use Rattle.std.proofs.lemmas.List.{append-nil, append_assoc, append_cancel_left, take_at, drop_at, drop-drop, take_all, length_push, length-take-le, nil_from_length}
+use Rattle.std.proofs.Common.{◌≡◌, ℕ, ◌+◌, ◌<◌, ◌≤◌, List, [], ◌∷◌, ◌++◌, length, take, drop, Some, None, Err, sym, refl, ap, ◌∙◌, arith, length-append, take-append-drop}
+use Rattle.std.proofs.lemmas.List.{append-nil, append_assoc, take_at, drop_at, drop-drop, take_all, length_push, length-take-le, nil_from_length}
 use Rattle.std.proofs.ByRecursion.{All-push}
 use Rattle.std.specs.List.{flat_map}
 use Rattle.layout.specs.Event.{Event, EventOk, bytes_of}
 use Rattle.reader.specs.declared.event.Event as parts
 use Rattle.faults.specs.declared.fault.EventFault.{EventFault}
-use Rattle.reader.specs.declared.stored.Survey as stored
 use Rattle.reader.specs.Laws.{RunOf}
 use Rattle.reader.specs.Parts.{event_bytes, AcceptedFront, RejectedFront}
-use Rattle.reader.specs.Questions.{Survey, survey, with_event, read_first}
+use Rattle.reader.specs.Questions.{Survey, survey, read_first}
 use Rattle.reader.specs.Surveys.{Surveyed}
 use Rattle.reader.proofs.Asks.{none_some, some_same}
 use Rattle.reader.proofs.RunLaws.{run_complete}

@@ -1,7 +1,6 @@
 -- A record worked by hand, read.
 -- Assumes nothing.
-use Rattle.std.specs.Prelude.{◌≡◌, ℕ, List, [], ◌∷◌, None, Ok, Err}
-use Rattle.layout.specs.declared.kind.Kind.TheVariants.{ZeroSuppressed}
+use Rattle.std.specs.Prelude.{◌≡◌, [], ◌∷◌, None, Ok, Err}
 use Rattle.layout.specs.Event.{suppressed}
 use Rattle.faults.specs.declared.fault.ClusterFault.TheVariants as clusters
 use Rattle.faults.specs.declared.fault.RecordFault.TheVariants as records

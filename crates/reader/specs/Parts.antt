@@ -1,7 +1,6 @@
 -- What the parts of an input that the reader hands out hold.
 -- Assumes nothing.
 use Rattle.std.specs.Prelude.{◌≡◌, ℕ, List, ◌++◌, length, Ok, Err, ◌≢◌}
-use Rattle.layout.specs.declared.kind.Kind.{Kind}
 use Rattle.layout.specs.Event as layout
 use Rattle.reader.specs.declared.cluster.Cluster.{Cluster}
 use Rattle.reader.specs.declared.event.Event.{Event}

@@ -1,12 +1,12 @@
 -- The questions that the reader asks of its input, in their order: the first one that is answered no is the fault.
 -- Assumes nothing.
-use Rattle.std.specs.Prelude.{ℕ, zero, suc, ◌+◌, ◌-◌, ◌*◌, Bool, true, false, cond, ◌&&◌, List, [], ◌∷◌, length, take, drop, Some, None, Ok, Err, Option, Result, ◌==◌, nat_le, slice_index}
+use Rattle.std.specs.Prelude.{ℕ, zero, suc, ◌+◌, ◌-◌, ◌*◌, Bool, true, false, ◌&&◌, List, [], ◌∷◌, length, take, drop, Some, None, Ok, Err, Option, Result, ◌==◌, nat_le, slice_index}
 use Rattle.layout.specs.declared.kind.Kind.{Kind}
 use Rattle.layout.specs.declared.kind.Kind.TheVariants.{ZeroSuppressed, ProcessedRaw, VirginRaw}
 use Rattle.layout.specs.declared.run.Run.{Run}
 use Rattle.layout.specs.Places.{placed, apart}
 pub use Rattle.layout.specs.Event.{kind_of}
-use Rattle.layout.specs.Event.{Cluster, run_of, Content, suppressed, words, Event, code, shortest, longest}
+use Rattle.layout.specs.Event.{Cluster, run_of, Content, suppressed, words, Event, shortest, longest}
 use Rattle.faults.specs.declared.fault.ClusterFault.{ClusterFault}
 use Rattle.faults.specs.declared.fault.ClusterFault.TheVariants as clusters
 use Rattle.faults.specs.declared.fault.RecordFault.{RecordFault}

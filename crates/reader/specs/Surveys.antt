@@ -5,7 +5,6 @@ use Rattle.layout.specs.Event.{Event}
 use Rattle.faults.specs.declared.fault.EventFault.{EventFault}
 use Rattle.reader.specs.declared.stored.Survey.{Survey}
 use Rattle.reader.specs.Laws.{RunOf}
-use Rattle.reader.specs.Questions as questions
 use Rattle.reader.specs.Questions.{survey, read_first}
 
 pub record Surveyed (bs : List ℕ) (s : Survey) : Type 0 where

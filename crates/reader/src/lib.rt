@@ -1,4 +1,6 @@
 // Takes a stored event apart: event, record and cluster readers, and their numbered faults.
+#![tactic(auto)]
+
 pub mod cluster;
 mod content;
 pub mod event;

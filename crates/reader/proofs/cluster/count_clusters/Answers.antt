@@ -17,4 +17,4 @@ loop-rest-preserved c =
 
 pub returns : goal.returns
 returns c cs h =
-    omega (arith, (c.loop-rest.invariant.0 cs h).0, left_none _ _ c.loop-rest.count c.loop-rest.invariant.0 c.in-default.ensures cs h)
+    omega (arith, (c.loop-rest.invariant.0 cs h).0, left_none _ _ c.loop-rest.count c.loop-rest.invariant.0 c.in_default.ensures cs h)

@@ -1,4 +1,4 @@
-use Rattle.std.proofs.Common.{◌≡◌, ◌+◌, ◌≤◌, length, drop, sym, refl, arith, length-drop}
+use Rattle.std.proofs.Common.{◌+◌, length, sym, refl, arith, length-drop}
 use Rattle.std.proofs.lemmas.List.{take_rest}
 use Rattle.std.proofs.lemmas.Bool.{eqb-true}
 use Rattle.reader.specs.Parts.{cluster_value}
@@ -9,8 +9,8 @@ use Rattle.reader.proofs.cluster.read_clusters.Goals as goal
 pub loop-left-preserved : goal.loop-left-preserved
 loop-left-preserved c =
     let xs = c.loop-left.left.now in
-    let v = cluster_value c.in-ok-cluster.cluster in
-    let h = sym c.in-ok-cluster.ensures in
+    let v = cluster_value c.in_ok-cluster.cluster in
+    let h = sym c.in_ok-cluster.ensures in
     let fits = (next_cluster c.loop-left.before c.loop-left.offset xs v h).0 in
     let rest = length-drop (2 + length v.values) xs in
     simp take_rest (

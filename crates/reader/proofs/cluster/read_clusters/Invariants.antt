@@ -1,4 +1,4 @@
-use Rattle.std.proofs.Common.{◌≡◌, ℕ, ◌+◌, ◌≤◌, length, None}
+use Rattle.std.proofs.Common.{◌≡◌, ◌+◌, ◌≤◌, length, None}
 use Rattle.reader.specs.Questions.{ok_map, read_clusters}
 use Rattle.reader.proofs.cluster.read_clusters.Given as goal
 

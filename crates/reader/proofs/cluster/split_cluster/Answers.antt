@@ -1,4 +1,4 @@
-use Rattle.std.proofs.Common.{◌<◌, ◌≤◌, length, get_or, drop, arith, rules}
+use Rattle.std.proofs.Common.{◌<◌, ◌≤◌, length, drop, arith, rules}
 use Rattle.std.proofs.lemmas.List.{take_rest}
 use Rattle.reader.proofs.Cuts.{cut_short, cut_whole}
 use Rattle.reader.proofs.cluster.split_cluster.Goals as goal
@@ -14,4 +14,4 @@ returns c =
     let xs = c.args.left.now in
     let two : 2 ≤ length xs = search rules in
     let fits : c.from-strips.result ≤ length (drop 2 xs) = rw take_rest at c.if-data-strips.false in
-    cut_whole xs _ _ c.from-strips.result two c.from-strips.ensures fits (rw take_rest at c.split-at.ensures.front) (rw take_rest at c.split-at.ensures.back)
+    cut_whole xs _ _ c.from-strips.result two c.from-strips.ensures fits (rw take_rest at c.split_at.ensures.front) (rw take_rest at c.split_at.ensures.back)

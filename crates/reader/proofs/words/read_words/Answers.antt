@@ -7,6 +7,6 @@ pub loop-left-preserved : goal.loop-left-preserved
 loop-left-preserved c =
     let xs = c.loop-left.left.now in
     let two : 2 ≤ length xs = search rules in
-    let t = word_taken c.loop-left.offset xs two (omega (arith, c.number-in.ensures)) in
+    let t = word_taken c.loop-left.offset xs two (omega (arith, c.number_in.ensures)) in
     let rest : length (drop 2 xs) + 2 ≡ length xs = omega (arith, length-drop 2 xs) in
     simp take_rest (sym t ∙ c.loop-left.invariant.0, omega (arith, rest, c.loop-left.invariant.1))

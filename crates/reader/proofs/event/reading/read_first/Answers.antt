@@ -3,27 +3,27 @@ use Rattle.std.proofs.lemmas.Result.{err_from_is_err_and}
 use Rattle.reader.proofs.Asks.{some_same}
 use Rattle.reader.proofs.Fronts.{Front, front_found, front_none, walk_fault, accepted_front}
 use Rattle.reader.proofs.event.reading.read_first.Goals as goal
-use Rattle.reader.proofs.event.reading.read_first.Goals.{In-ok-end}
+use Rattle.reader.proofs.event.reading.read_first.Goals.{In_ok-end}
 
-found : (c : goal.In-ok-end) → Front c.args.input.now c.in-ok-end.end
-found c = let r = c.in-ok-end.ensures in front_found _ _ r.bytes r.end
+found : (c : goal.In_ok-end) → Front c.args.input.now c.in_ok-end.end
+found c = let r = c.in_ok-end.ensures in front_found _ _ r.bytes r.end
 
-pub returns-in-err-end : goal.returns-in-err-end
-returns-in-err-end c =
-    let p = err_from_is_err_and c.from-residual.result c.from-residual.ensures.1 in
-    let f = c.in-err-end.ensures.end in
+pub returns-in_err-end : goal.returns-in_err-end
+returns-in_err-end c =
+    let p = err_from_is_err_and c.from_residual.result c.from_residual.ensures.1 in
+    let f = c.in_err-end.ensures.end in
     let bs = c.args.input.now in
     let no = walk_fault bs _ f in
     rw (p.1, p.2) (record { read = no; none = front_none bs _ no })
 
-pub split-at-requires : goal.split-at-requires
-split-at-requires c = (found (goal.at.split-at-requires c).In-ok-end).within
+pub split_at-requires : goal.split_at-requires
+split_at-requires c = (found (goal.at.split_at-requires c).In_ok-end).within
 
 pub returns : goal.returns
 returns c =
     let bs = c.args.input.now in
-    let f = found (goal.at.returns c).In-ok-end in
-    let front = c.split-at.ensures.front in
-    let back = c.split-at.ensures.back in
+    let f = found (goal.at.returns c).In_ok-end in
+    let front = c.split_at.ensures.front in
+    let back = c.split_at.ensures.back in
     let kind = some_same c.in-Some.kind f.value.kind (c.in-Some.ensures ∙ f.kind) in
-    accepted_front bs c.in-ok-end.end _ _ f kind front back
+    accepted_front bs c.in_ok-end.end _ _ f kind front back

@@ -17,6 +17,6 @@ there (Some c) = refl
 pub returns-in-ZeroSuppressed-len4-up : goal.returns-in-ZeroSuppressed-len4-up
 returns-in-ZeroSuppressed-len4-up c k content has =
     let s = suppressed_part k content _ has.ok has.bytes (sym has.kind ∙ c.in-ZeroSuppressed-len4-up.is-0) in
-    let n = c.nth-cluster.ensures s.clusters (rw take_rest s.body) in
-    ap (ok_map cluster_value) c.ok-or.ensures.value
-    ∙ (there c.nth-cluster.result ∙ (ap present n ∙ sym (ap (λ x. cluster_of x c.args.index) s.is)))
+    let n = c.nth_cluster.ensures s.clusters (rw take_rest s.body) in
+    ap (ok_map cluster_value) c.ok_or.ensures.value
+    ∙ (there c.nth_cluster.result ∙ (ap present n ∙ sym (ap (λ x. cluster_of x c.args.index) s.is)))
