@@ -1,4 +1,6 @@
 // Takes a stored run apart: `keep [--column] FILE` prints for each event the crew's column and what its records hold.
+#![tactic(auto)]
+
 mod arguments;
 mod column;
 mod contents;
@@ -11,6 +13,7 @@ use failure::Failure;
 use reader::survey_run;
 use std::fs;
 use std::io::{BufWriter, Write};
+use std::process::ExitCode;
 use walk::print_run;
 
 fn keep(rt: &HostRuntime) -> Result<(), Failure> {
@@ -26,10 +29,12 @@ fn keep(rt: &HostRuntime) -> Result<(), Failure> {
     Ok(())
 }
 
-fn main(rt: HostRuntime) -> Result<(), Failure> {
-    let result = keep(&rt);
-    if let Err(failure) = &result {
-        let _ = eprintln!(rt; "keep: {failure}");
+fn main(rt: HostRuntime) -> ExitCode {
+    match keep(&rt) {
+        Ok(()) => ExitCode::SUCCESS,
+        Err(failure) => {
+            let _ = eprintln!(rt; "keep: {failure}");
+            ExitCode::FAILURE
+        }
     }
-    result
 }

@@ -1,3 +1,5 @@
+#![tactic(auto)]
+
 // Tests of the reader: damaged events, what an accepted event answers, and stored runs.
 #[cfg(test)]
 mod answers;
