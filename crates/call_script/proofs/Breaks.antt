@@ -1,5 +1,5 @@
 -- The first line of a script, by where it ends.
-use Rattle.std.proofs.Common.{◌≡◌, ℕ, List, [], ◌∷◌, length, sym, refl, ◌∙◌, arith}
+use Rattle.std.proofs.Common.{◌≡◌, ℕ, List, [], ◌∷◌, length, refl, arith}
 use Rattle.call_script.specs.Lines.{without_return}
 
 pub no_return : (line : List ℕ) → length line ≡ 0 → line ≡ without_return line

@@ -1,4 +1,6 @@
 // A call script, line by line: the words of a line, the numbers in them, and the command that it asks for.
+#![tactic(auto)]
+
 pub mod command;
 pub mod lines;
 mod names;

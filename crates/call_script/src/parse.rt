@@ -120,9 +120,9 @@ impl<'a> Words<'a> {
     {
         let kind = self.word()?;
         let size = self.number(MOST_MEMORY)? as usize;
-        if kind == b"bytes" {
+        if kind == b"bytes".as_slice() {
             Ok(Memory::Bytes(size))
-        } else if kind == b"words" {
+        } else if kind == b"words".as_slice() {
             Ok(Memory::Words(size))
         } else {
             Err(Unread::BadLine)
@@ -131,11 +131,11 @@ impl<'a> Words<'a> {
 
     fn rule(&mut self) -> Result<RuleName, Unread> {
         let name = self.word()?;
-        if name == b"rank" {
+        if name == b"rank".as_slice() {
             Ok(RuleName::Rank)
-        } else if name == b"mean" {
+        } else if name == b"mean".as_slice() {
             Ok(RuleName::Mean)
-        } else if name == b"fixed" {
+        } else if name == b"fixed".as_slice() {
             Ok(RuleName::Fixed(self.shorts()?))
         } else {
             Err(Unread::BadLine)
@@ -197,10 +197,10 @@ fn store_call(name: StoreName, words: &mut Words<'_>) -> Result<StoreCall, Unrea
 fn unpack(heap: Global, word: &[u8]) -> Result<Command, Unread>
     ensures { IfOk result KeepsLimits }
 {
-    if word == b"last" {
+    if word == b"last".as_slice() {
         return Ok(Command::UnpackLast);
     }
-    if word == b"-" {
+    if word == b"-".as_slice() {
         return Ok(Command::Unpack(Vec::new(heap)));
     }
     if word.len() > MOST_DIGITS {
