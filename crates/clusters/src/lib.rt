@@ -1,4 +1,6 @@
 // Cluster finding: which strips belong to a cluster, by the thresholds that they and their neighbours reach.
+#![tactic(auto)]
+
 pub mod finder;
 pub mod laws;
 pub mod pattern;

@@ -34,9 +34,9 @@ whole :
     all ≡ cluster_runs strips
 whole strips none left all h e f g = g ∙ both strips none left h e f
 
-pub find-on-chip-requires : goal.find-on-chip-requires
+pub find_on_chip-requires : goal.find_on_chip-requires
 unfolding cluster_runs
-find-on-chip-requires c =
+find_on_chip-requires c =
     let strips = c.args.reached.now in
     let all : length strips ≡ 256 = search rules in
     record {
@@ -47,8 +47,8 @@ find-on-chip-requires c =
           ∙ spaced_front (chip_runs 0 (take 128 strips)) (chip_runs 128 (drop 128 strips)) (clusters_in_place strips all);
     }
 
-pub find-on-chip-requires-2 : goal.find-on-chip-requires-2
-find-on-chip-requires-2 c =
+pub find_on_chip-requires-2 : goal.find_on_chip-requires-2
+find_on_chip-requires-2 c =
     let strips = c.args.reached.now in
     let all : length strips ≡ 256 = search rules in
     record {
@@ -56,8 +56,8 @@ find-on-chip-requires-2 c =
       on_fibre = omega arith;
       in_place =
           ap spaced
-          (both strips (listed c.new-runs.result) (listed c.find-on-chip.new.runs) all c.new-runs.ensures
-          c.find-on-chip.ensures)
+          (both strips (listed c.new-runs.result) (listed c.find_on_chip.new.runs) all c.new-runs.ensures
+          c.find_on_chip.ensures)
           ∙ clusters_in_place strips all;
     }
 
@@ -65,5 +65,5 @@ pub returns : goal.returns
 returns c =
     let strips = c.args.reached.now in
     let all : length strips ≡ 256 = search rules in
-    whole strips (listed c.new-runs.result) (listed c.find-on-chip.new.runs) (listed c.find-on-chip-2.new.runs) all
-    c.new-runs.ensures c.find-on-chip.ensures c.find-on-chip-2.ensures
+    whole strips (listed c.new-runs.result) (listed c.find_on_chip.new.runs) (listed c.find_on_chip-2.new.runs) all
+    c.new-runs.ensures c.find_on_chip.ensures c.find_on_chip-2.ensures

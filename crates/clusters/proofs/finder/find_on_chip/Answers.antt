@@ -9,8 +9,8 @@ use Rattle.clusters.proofs.finder.find_on_chip.Goals as goal
 use Rattle.clusters.proofs.finder.find_on_chip.Goals.{then-belongs, else-belongs}
 
 -- a strip that does not belong: the open run ends before what is left
-pub end-run-requires : goal.end-run-requires
-end-run-requires c =
+pub end_run-requires : goal.end_run-requires
+end_run-requires c =
     let chip = c.args.chip.now in
     let first = c.args.first in
     let n = c.loop-n.n in
@@ -20,7 +20,7 @@ end-run-requires c =
     let strips = c.advance.new.self.strips in
     let within : n < length chip = omega arith in
     let seen : strips ≡ window chip n =
-    slid chip n c.loop-n.window.strips strips c.strip-at-in-loop-n.result c.loop-n.invariant.0 c.strip-at-in-loop-n.ensures
+    slid chip n c.loop-n.window.strips strips c.strip_at-in-loop-n.result c.loop-n.invariant.0 c.strip_at-in-loop-n.ensures
     c.advance.ensures in
     let free = told chip n strips false seen c.if-belongs.ensures in
     let all : (found ++ ended (first + n) s []) ++ left chip first (n + 1) 0 ≡ whole =
@@ -41,7 +41,7 @@ loop-n-preserved c =
     let strips = c.advance.new.self.strips in
     let within : n < length chip = omega arith in
     let seen : strips ≡ window chip n =
-    slid chip n c.loop-n.window.strips strips c.strip-at-in-loop-n.result c.loop-n.invariant.0 c.strip-at-in-loop-n.ensures
+    slid chip n c.loop-n.window.strips strips c.strip_at-in-loop-n.result c.loop-n.invariant.0 c.strip_at-in-loop-n.ensures
     c.advance.ensures in (
       seen ∙ slid_on chip n,
       elim c.if-belongs.branch [ then-belongs w ↦ omega (arith, w.strips-is) | else-belongs w ↦ omega (arith, w.strips-is) ],
@@ -50,14 +50,14 @@ loop-n-preserved c =
             simp (w.strips-is, w.runs-is)
             (all_longer found whole chip first n s within (told chip n strips true seen w.if-belongs.ensures) c.loop-n.invariant.2)
         | else-belongs w ↦
-            simp (w.strips-is, w.runs-is, w.end-run.ensures)
+            simp (w.strips-is, w.runs-is, w.end_run.ensures)
             (all_ended found whole chip first n s within (told chip n strips false seen w.if-belongs.ensures) c.loop-n.invariant.2)
       ],
     )
 
 -- the chip's end ends the open run
-pub end-run-requires-2 : goal.end-run-requires-2
-end-run-requires-2 c =
+pub end_run-requires-2 : goal.end_run-requires-2
+end_run-requires-2 c =
     let chip = c.args.chip.now in
     let first = c.args.first in
     let whole = listed c.args.runs.now ++ chip_runs first chip in
@@ -71,6 +71,6 @@ returns c =
     let chip = c.args.chip.now in
     let first = c.args.first in
     let whole = listed c.args.runs.now ++ chip_runs first chip in
-    c.end-run-2.ensures
+    c.end_run-2.ensures
     ∙ all_none (listed c.loop-n.runs) whole chip first c.loop-n.n 128 c.loop-n.strips c.requires.chip (omega arith)
     c.loop-n.invariant.2
