@@ -1,4 +1,6 @@
 // From the captured samples of a fibre to its record.
+#![tactic(auto)]
+
 mod common_mode;
 mod flat;
 pub mod laws;

@@ -1,4 +1,3 @@
-use Rattle.std.proofs.Common.{◌≡◌, ◌+◌, ◌≤◌, length}
 use Rattle.strips.proofs.Gathering.{Gathered}
 use Rattle.strips.proofs.common_mode.gather.Given as goal
 

@@ -6,9 +6,9 @@ use Rattle.strips.proofs.record.flat_words.Goals as goal
 
 pub unreachable-requires : goal.unreachable-requires
 unreachable-requires c =
-    never_above c.flat-values.result
-    (subst (λ (xs : List ℕ). All TenBits xs) (sym c.flat-values.ensures) (flats_fit c.args.settings.now c.args.samples.now))
+    never_above c.flat_values.result
+    (subst (λ (xs : List ℕ). All TenBits xs) (sym c.flat_values.ensures) (flats_fit c.args.settings.now c.args.samples.now))
     c.in-None.ensures
 
 pub returns : goal.returns
-returns c = c.in-Some.ensures ∙ ap words c.flat-values.ensures
+returns c = c.in-Some.ensures ∙ ap words c.flat_values.ensures

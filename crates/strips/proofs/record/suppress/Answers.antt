@@ -6,18 +6,18 @@ use Rattle.strips.specs.Fibre.{numbers}
 use Rattle.strips.proofs.Forming.{flats_fit, both_fit, formed}
 use Rattle.strips.proofs.record.suppress.Goals as goal
 
-pub common-modes-modes-requires : goal.common-modes-modes-requires
-common-modes-modes-requires g c =
-    subst (λ (xs : List ℕ). All TenBits xs) (sym c.flat-values-flats.ensures) (flats_fit c.args.settings.now c.args.samples.now)
+pub common_modes-modes-requires : goal.common_modes-modes-requires
+common_modes-modes-requires g c =
+    subst (λ (xs : List ℕ). All TenBits xs) (sym c.flat_values-flats.ensures) (flats_fit c.args.settings.now c.args.samples.now)
 
 pub unreachable-requires : goal.unreachable-requires
 unreachable-requires g c =
-    both_fit c.common-modes-modes.result.left c.common-modes-modes.result.right c.common-modes-modes.ensures.left.1 c.common-modes-modes.ensures.right.1
+    both_fit c.common_modes-modes.result.left c.common_modes-modes.result.right c.common_modes-modes.ensures.left.1 c.common_modes-modes.ensures.right.1
     c.in-None.ensures
 
 pub returns : goal.returns
 returns g c =
-    formed c.args.settings.now (numbers c.args.samples.now) c.flat-values-flats.result c.flat-values-flats.ensures
-    (g.R.Rule.meaning c.args.rule.now) c.args.fibre.index c.common-modes-modes.result c.reduce-reduced.result.values c.reduce-reduced.result.reached
-    (listed c.find-clusters.result) (suppressed_content c.in-Some.content) c.common-modes-modes.ensures.left.0 c.common-modes-modes.ensures.right.0
-    c.reduce-reduced.ensures.values c.reduce-reduced.ensures.reached c.find-clusters.ensures c.in-Some.ensures
+    formed c.args.settings.now (numbers c.args.samples.now) c.flat_values-flats.result c.flat_values-flats.ensures
+    (g.R.Rule.meaning c.args.rule.now) c.args.fibre.index c.common_modes-modes.result c.reduce-reduced.result.values c.reduce-reduced.result.reached
+    (listed c.find_clusters.result) (suppressed_content c.in-Some.content) c.common_modes-modes.ensures.left.0 c.common_modes-modes.ensures.right.0
+    c.reduce-reduced.ensures.values c.reduce-reduced.ensures.reached c.find_clusters.ensures c.in-Some.ensures

@@ -1,4 +1,4 @@
-use Rattle.std.proofs.Common.{◌≡◌, ℕ, ◌<◌, length, get_or, sym, refl, ◌∙◌, arith, length-set}
+use Rattle.std.proofs.Common.{◌≡◌, ℕ, ◌<◌, get_or, refl, arith, length-set}
 use Rattle.std.proofs.lemmas.List.FromFn.{fill_by_all}
 use Rattle.terms.specs.Terms.{part}
 use Rattle.clusters.specs.declared.reached.Reached.{Reached}
@@ -15,18 +15,18 @@ pub loop-strip-preserved : goal.loop-strip-preserved
 loop-strip-preserved c =
     let s : ℕ = c.loop-strip.strip in
     let value : ℕ → ℕ = λ k. reduced (counts c.args.settings.now k) (part c.args.modes (side_of k)) (get_or c.args.flats.now k 0) in
-    let here : c.reduced-value-value.result ≡ value s =
+    let here : c.reduced_value-value.result ≡ value s =
     value_is c.args.settings.now c.args.modes c.args.flats.now s c.counts-counts.result c.side_of.result c.of.result.now
-    c.reduced-value-value.result c.counts-counts.ensures c.side_of.ensures c.of.ensures c.reduced-value-value.ensures
+    c.reduced_value-value.result c.counts-counts.ensures c.side_of.ensures c.of.ensures c.reduced_value-value.ensures
     in
     let both : ◌≡◌ {A = Reached} (record { thresh1 = c.reaches.result; thresh2 = c.reaches-in-loop-strip.result }) (reached_by c.args.settings.now (value s) s) =
-    reached_is c.args.settings.now s c.counts-counts.result c.reduced-value-value.result (value s) c.reaches.result
+    reached_is c.args.settings.now s c.counts-counts.result c.reduced_value-value.result (value s) c.reaches.result
     c.reaches-in-loop-strip.result c.counts-counts.ensures here c.reaches.ensures c.reaches-in-loop-strip.ensures
     in
     let inside : s < 256 = omega arith in (
       simp length-set c.loop-strip.invariant.0,
       simp length-set c.loop-strip.invariant.1,
-      fill_more value c.loop-strip.values s 0 c.reduced-value-value.result here (omega (arith, c.loop-strip.invariant.0)) c.loop-strip.invariant.2,
+      fill_more value c.loop-strip.values s 0 c.reduced_value-value.result here (omega (arith, c.loop-strip.invariant.0)) c.loop-strip.invariant.2,
       fill_more (λ k. reached_by c.args.settings.now (value k) k) c.loop-strip.reached s nothing
           (record { thresh1 = c.reaches.result; thresh2 = c.reaches-in-loop-strip.result }) both (omega (arith, c.loop-strip.invariant.1)) c.loop-strip.invariant.3,
     )
