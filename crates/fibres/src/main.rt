@@ -1,5 +1,7 @@
 // Forms the records of fibres: reads the settings and samples of each from a block of lines, and prints its
 // record in each mode.
+#![tactic(auto)]
+
 mod block;
 mod numbers;
 mod records;
