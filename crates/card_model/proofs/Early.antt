@@ -16,7 +16,7 @@ use Rattle.layout.specs.Lengths.{lengths_in_range}
 use Rattle.strips.specs.Fibre.{fibre_record, kind_in, content_in}
 use Rattle.strips.specs.Laws.{Bounded, RecordsOfTheLayout}
 use Rattle.card_model.specs.Fibres.{lowest}
-use Rattle.card_model.specs.Calls.{Call, load, clock, ask, fetch, give_back, reset, Answer, kept, fetched, was_reset, plain, level_is, Loss}
+use Rattle.card_model.specs.Calls.{Call, load, clock, ask, fetch, give_back, reset, Answer, kept, fetched, was_reset, plain, Loss}
 use Rattle.card_model.specs.State.{Watch, Capture, Readout, CardState}
 use Rattle.card_model.specs.Readout.{record_of, lengths_of, most_events, exceeds, lacking, loss}
 use Rattle.card_model.specs.Clock.{Outcome, pulses_with, sought, within, row, records_of, completed_answer, completing, all_columns}

@@ -1,6 +1,6 @@
 -- A fibre in step stays inside its frame as long as the capture runs.
 -- Assumes nothing.
-use Rattle.std.proofs.Common.{◌≡◌, ℕ, ◌+◌, ◌<◌, Bool, true, false, cond, not, ◌&&◌, eqb, List, [], ◌∷◌, get_or, Some, None, Ok, Option, sym, refl, ap, ◌∙◌, subst, arith}
+use Rattle.std.proofs.Common.{◌≡◌, ℕ, ◌+◌, ◌<◌, Bool, true, false, cond, not, ◌&&◌, eqb, List, [], ◌∷◌, get_or, Ok, Option, sym, refl, ap, ◌∙◌, subst, arith}
 use Rattle.terms.specs.declared.enable.Enable.{Enable}
 use Rattle.rules.specs.Rules.{Meaning}
 use Rattle.settings.specs.Settings.{of_fibre}
@@ -10,7 +10,7 @@ use Rattle.ticker.specs.Step.{due, next, pulses}
 use Rattle.synch.specs.Vote.{event}
 use Rattle.card_model.specs.Calls.{Call}
 use Rattle.card_model.specs.State.{CardState, Capture, Watch, watch_of, off, fresh}
-use Rattle.card_model.specs.Clock.{Outcome, level_in, ticked, watches_after, pulses_with, standings, begun, sought, within, completing, advanced, last_position}
+use Rattle.card_model.specs.Clock.{Outcome, level_in, ticked, watches_after, pulses_with, standings, begun, sought, within, completing, last_position}
 use Rattle.card_model.specs.Step.{loaded, step}
 use Rattle.card_model.specs.Runs.{state_after}
 use Rattle.card_model.specs.InStep.{InFrame, StepsStay}
