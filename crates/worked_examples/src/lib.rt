@@ -1,4 +1,6 @@
 // The worked examples of every layer under one statement.
+#![tactic(auto)]
+
 ghost use Rattle.worked_examples.specs.Examples.{WorkedExamples};
 
 // Each layer shows its own; together they are one theorem.
