@@ -1,4 +1,6 @@
 // Answers a call script: reads it on the standard input, and prints what each call answered.
+#![tactic(auto)]
+
 mod cards;
 mod estimates;
 mod events;
@@ -11,6 +13,7 @@ mod session;
 use failure::Failure;
 use session::answer_script;
 use std::io::{BufWriter, Read, Write};
+use std::process::ExitCode;
 use stores::{ByteRing, WordRing};
 
 fn script(rt: &HostRuntime) -> Result<(), Failure> {
@@ -28,10 +31,12 @@ fn script(rt: &HostRuntime) -> Result<(), Failure> {
     result
 }
 
-fn main(rt: HostRuntime) -> Result<(), Failure> {
-    let result = script(&rt);
-    if let Err(failure) = &result {
-        let _ = eprintln!(rt; "script: {failure}");
+fn main(rt: HostRuntime) -> ExitCode {
+    match script(&rt) {
+        Ok(()) => ExitCode::SUCCESS,
+        Err(failure) => {
+            let _ = eprintln!(rt; "script: {failure}");
+            ExitCode::FAILURE
+        }
     }
-    result
 }
