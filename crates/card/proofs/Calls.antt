@@ -1,6 +1,6 @@
 -- The calls about the readout, each as a step of the card.
 -- Assumes nothing.
-use Rattle.std.proofs.Common.{◌≡◌, ℕ, Bool, true, false, cond, ltb, List, [], ◌∷◌, Some, None, Ok, Err, Result, sym, refl, ap, ◌∙◌, subst, ap₂, ⊎_elim, arith}
+use Rattle.std.proofs.Common.{◌≡◌, ℕ, Bool, true, false, ltb, List, [], ◌∷◌, Some, None, Ok, Err, Result, sym, refl, ap, ◌∙◌, subst, ap₂, ⊎_elim, arith}
 use Rattle.std.proofs.lemmas.Bool.{cond-true, cond-false, cases_Bool}
 use Rattle.terms.specs.declared.refusal.Refusal.{Refusal}
 use Rattle.terms.specs.declared.refusal.Refusal.TheVariants.{NoSuchFibre, SlipOut, NothingWaiting, NoSlipOut}
@@ -11,7 +11,7 @@ use Rattle.card_model.specs.State.{CardState}
 use Rattle.card_model.specs.Clock.{Outcome}
 use Rattle.card_model.specs.Step.{step, unchanged, refusing, slip_given, ask_waiting, ask_step, giving_back, give_back_step, level_step, resetting, reset_step}
 use Rattle.card_model.specs.Readout.{event_length}
-use Rattle.card.specs.declared.core.Core.{Core}
+use Rattle.card.specs.declared.inner.Core.{Core}
 use Rattle.card.specs.Abstraction.{state_of}
 use Rattle.card.specs.Queue.{queued, first_in}
 use Rattle.card.specs.Steps.{Stepped, said_level}

@@ -7,10 +7,9 @@ use Rattle.strips.specs.Laws.{Bounded}
 use Rattle.card_model.specs.Calls.{Call}
 use Rattle.card_model.specs.State.{CardState}
 use Rattle.card_model.specs.Runs.{state_after}
-use Rattle.card_model.specs.Laws.{AfterEvery}
 use Rattle.card_model.proofs.Assembly.{three_laws}
 use Rattle.card_model.proofs.Waiting.{readout_laws}
-use Rattle.card.specs.declared.core.Core.{Core}
+use Rattle.card.specs.declared.inner.Core.{Core}
 use Rattle.card.specs.Abstraction.{state_of}
 use Rattle.card.specs.CardLaws.{LawsAfter, LawsAfterList, LawsOf}
 

@@ -1,27 +1,25 @@
 -- A Clock without a capture, and one within a capture.
 -- Assumes nothing.
-use Rattle.std.proofs.Common.{◌≡◌, ℕ, ◌+◌, ◌<◌, ◌≤◌, Bool, true, false, cond, eqb, leb, List, [], ◌∷◌, ◌++◌, map, Some, None, Option, sym, refl, ap, ◌∙◌, subst, ap₂}
+use Rattle.std.proofs.Common.{◌≡◌, ℕ, ◌+◌, Bool, true, false, cond, eqb, leb, List, [], ◌∷◌, ◌++◌, map, Some, None, Option, sym, ap, ◌∙◌, subst, ap₂}
 use Rattle.std.proofs.lemmas.Bool.{cond-true, cond-false, eq-eqb, ne_eqb}
 use Rattle.terms.specs.declared.refusal.Refusal.TheVariants.{SampleTooLarge}
 use Rattle.rules.specs.Rules.{Meaning}
-use Rattle.settings.specs.declared.card.CardSettings.{CardSettings}
 use Rattle.ticker.specs.declared.ticker.Ticker.{Ticker}
 use Rattle.synch.specs.declared.standing.Standing.{Standing}
 use Rattle.synch.specs.Vote.{event, majority_header}
 use Rattle.synch.specs.Status.{status_word}
-use Rattle.card_model.specs.Calls.{clock, Answer, plain, Plain, quiet, synch, refused}
+use Rattle.card_model.specs.Calls.{clock, Answer, plain, quiet, synch, refused}
 use Rattle.card_model.specs.State as model
 use Rattle.card_model.specs.State.{CardState, Watch}
-use Rattle.card_model.specs.Clock.{Outcome, too_large, watches_after, pulses_with, standings, begun, sought, synch_of, within_answer, advanced, within, first_sample, synch_position, last_position, records_of, all_columns, completing, in_capture, clocked}
+use Rattle.card_model.specs.Clock.{Outcome, too_large, watches_after, pulses_with, standings, begun, sought, synch_of, within_answer, within, first_sample, synch_position, last_position, records_of, all_columns, completing, in_capture, clocked}
 use Rattle.card_model.specs.Step.{refusing, clock_asked, clock_step}
 use Rattle.card.specs.declared.capture.Capture.{Capture}
-use Rattle.card.specs.declared.core.Core.{Core}
+use Rattle.card.specs.declared.inner.Core.{Core}
 use Rattle.card.specs.declared.row.Row.{Row}
 use Rattle.card.specs.Abstraction.{watches_in, rows_in, columns_before, running, capture_in, state_of}
 use Rattle.card.specs.Steps.{Stepped, Leads}
 use Rattle.card.proofs.Calls.{stepped}
 use Rattle.card.proofs.Loading.{with_settings}
-use Rattle.card.proofs.Ticking.{no_event}
 
 -- a core with another capture and other rows
 abbrev pub with_capture : Core → Option Capture → List Row → Core

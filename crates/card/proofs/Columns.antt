@@ -7,7 +7,6 @@ use Rattle.std.proofs.lemmas.List.{length-map, map-set, get_or-map, get_or-set_s
 use Rattle.std.proofs.lemmas.Bool.{cond-true, cond-false, le-leb, lt-leb}
 use Rattle.strips.specs.declared.sample.Sample.{Sample}
 use Rattle.strips.specs.Fibre.{numbers}
-use Rattle.card_model.specs.Fibres.{for_fibres}
 use Rattle.card_model.specs.Clock.{first_sample}
 use Rattle.card_model.proofs.Fibres.{getD_for, for_same}
 use Rattle.card.specs.declared.row.Row.{Row}

@@ -18,7 +18,7 @@ use Rattle.card_model.specs.Clock.{Outcome}
 use Rattle.card_model.specs.Readout.{event_length, taken_from, left_in, oldest_lengths, oldest_bytes, without_event}
 use Rattle.card_model.specs.Step.{step, refusing, with_readout, fetching, fetch_asked, fetch_step}
 use Rattle.card_model.proofs.Fibres.{for_same, total_same, in_order_same}
-use Rattle.card.specs.declared.core.Core.{Core}
+use Rattle.card.specs.declared.inner.Core.{Core}
 use Rattle.card.specs.declared.waiting.Waiting.{Waiting}
 use Rattle.card.specs.Abstraction.{state_of}
 use Rattle.card.specs.Queue.{queued}

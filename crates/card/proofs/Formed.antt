@@ -1,9 +1,9 @@
 -- The records of an event, formed in twelve buffers.
 -- Assumes nothing.
-use Rattle.std.proofs.Common.{◌≡◌, ℕ, ◌+◌, ◌<◌, ◌≤◌, ◌≢◌, List, [], ◌∷◌, ◌++◌, map, length, get_or, take, drop, set, sym, refl, ap, ◌∙◌, subst, ap₂, ⊎_elim, arith}
+use Rattle.std.proofs.Common.{◌≡◌, ℕ, ◌+◌, ◌<◌, ◌≤◌, List, [], ◌∷◌, ◌++◌, map, length, get_or, take, drop, set, sym, refl, ap, ◌∙◌, subst, ap₂, ⊎_elim, arith}
 use Rattle.std.specs.List.{range_with_len, AllByRecursion as All}
 use Rattle.std.proofs.lemmas.List.FromFn.{fill_by_all}
-use Rattle.std.proofs.lemmas.List.{length-map, take_at, get_or_default, get_or-map, get_or-set_same, get_or-set_other}
+use Rattle.std.proofs.lemmas.List.{length-map, take_at, get_or_default, get_or-set_same, get_or-set_other}
 use Rattle.std.proofs.lemmas.Bool.{cases_eq}
 use Rattle.rules.specs.Rules.{Meaning}
 use Rattle.settings.specs.declared.card.CardSettings.{CardSettings}
@@ -17,7 +17,6 @@ use Rattle.strips.specs.declared.sample.Sample.{Sample}
 use Rattle.strips.specs.Fibre.{numbers, kind_in, content_in, fibre_record}
 use Rattle.strips.specs.Laws.{Bounded}
 use Rattle.strips.proofs.FormedRecords.{records_of_the_layout}
-use Rattle.card_model.specs.Fibres.{for_fibres}
 use Rattle.card_model.specs.Readout.{record_of, lengths_of}
 use Rattle.card_model.specs.Clock.{row, records_of}
 use Rattle.card_model.proofs.Fibres.{getD_for, for_same}

@@ -1,6 +1,6 @@
 -- A setting carried out, as a step of the card.
 -- Assumes nothing.
-use Rattle.std.proofs.Common.{◌≡◌, ℕ, ◌<◌, Bool, List, map, length, get_or, set, Some, None, Ok, Err, Option, Result, sym, refl, ap, ◌∙◌, subst, ap₂, arith}
+use Rattle.std.proofs.Common.{◌≡◌, ℕ, ◌<◌, Bool, List, length, get_or, set, Some, None, Ok, Err, Option, Result, sym, refl, ap, ◌∙◌, subst, ap₂}
 use Rattle.std.proofs.lemmas.List.{map-set, get_or-map}
 use Rattle.terms.specs.declared.enable.Enable.{Enable}
 use Rattle.terms.specs.declared.fibre.Fibre.{Fibre}
@@ -21,7 +21,7 @@ use Rattle.card_model.specs.Calls.{load, plain, taken, refused}
 use Rattle.card_model.specs.State.{CardState, Watch, watch_of, off}
 use Rattle.card_model.specs.Step.{sent_off, watches_by, refusing, loaded, load_in, load_step}
 use Rattle.card.specs.declared.capture.Capture.{Capture}
-use Rattle.card.specs.declared.core.Core.{Core}
+use Rattle.card.specs.declared.inner.Core.{Core}
 use Rattle.card.specs.Abstraction.{watch_in, watches_in, rows_in, capture_in, state_of}
 use Rattle.card.specs.Steps.{Stepped}
 use Rattle.card.proofs.Calls.{stepped}

@@ -1,28 +1,27 @@
 -- Whether a completed event is lost, and what is kept.
 -- Assumes nothing.
-use Rattle.std.proofs.Common.{◌≡◌, ℕ, ◌+◌, ◌-◌, ◌<◌, ◌≤◌, Bool, true, false, cond, eqb, ltb, leb, List, [], ◌∷◌, ◌++◌, map, length, get_or, take, drop, set, is_ok, Some, None, Ok, Err, Option, Result, sym, refl, ap, ◌∙◌, subst, ap₂, arith}
+use Rattle.std.proofs.Common.{◌≡◌, ℕ, ◌+◌, ◌-◌, ◌<◌, ◌≤◌, Bool, true, false, cond, eqb, ltb, leb, List, [], ◌∷◌, ◌++◌, length, get_or, take, Some, None, Ok, Option, sym, refl, ap, ◌∙◌, subst, ap₂, arith}
 use Rattle.std.proofs.lemmas.List.{length-take-le}
-use Rattle.std.proofs.lemmas.Bool.{cond-true, cond-false, cases_Bool, le-leb, lt-leb, lt-ltb, leb-false, ltb-false}
-use Rattle.terms.specs.declared.refusal.Refusal.{Refusal}
+use Rattle.std.proofs.lemmas.Bool.{cond-true, cond-false, le-leb, lt-leb, lt-ltb, leb-false, ltb-false}
 use Rattle.rules.specs.Rules.{Meaning}
 use Rattle.stores.specs.Store.{waiting, level_of, appended, put_questions}
-use Rattle.stores.proofs.Lists.{put_may, not_granted}
+use Rattle.stores.proofs.Lists.{put_may}
 use Rattle.card_model.specs.Fibres.{for_fibres, lowest}
 use Rattle.card_model.specs.Calls as model
 use Rattle.card_model.specs.Calls.{Answer, plain, kept, lost}
-use Rattle.card_model.specs.State.{CardState, Readout, Watch}
+use Rattle.card_model.specs.State.{CardState, Readout}
 use Rattle.card_model.specs.Readout.{record_of, lengths_of, event_length, most_events, exceeds, lacking, loss, with_event}
 use Rattle.card_model.specs.Clock.{records_of, readout_after, completed_answer, completing, last_position, in_capture}
 use Rattle.card_model.proofs.Fibres.{getD_for, for_same, lowest_same, lowest_none, none_lowest}
 use Rattle.card.specs.declared.capture.Capture.{Capture}
 use Rattle.card.specs.declared.clocked.Loss.{Loss}
-use Rattle.card.specs.declared.core.Core.{Core}
+use Rattle.card.specs.declared.inner.Core.{Core}
 use Rattle.card.specs.declared.row.Row.{Row}
 use Rattle.card.specs.declared.waiting.Waiting.{Waiting}
 use Rattle.card.specs.Abstraction.{watches_in, rows_in, columns_before, running, capture_in, state_of}
 use Rattle.card.proofs.Clocking.{with_capture, is_last}
 use Rattle.card.specs.Queue.{queued}
-use Rattle.card.specs.Event.{event_in, Formed, exceeds_by, loss_by, loss_in_all, FitsAll}
+use Rattle.card.specs.Event.{event_in, Formed, exceeds_by, loss_by, FitsAll}
 use Rattle.card.specs.Steps.{Leads, loss_in}
 use Rattle.card.proofs.Fibres.{Upto, upto_here, upto_more, upto_all, lowest_some}
 

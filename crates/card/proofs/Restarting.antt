@@ -1,8 +1,7 @@
 -- A card that starts, or starts afresh.
 -- Assumes nothing.
-use Rattle.std.proofs.Common.{◌≡◌, ℕ, ◌+◌, ◌<◌, ◌≤◌, Bool, false, List, [], ◌∷◌, map, length, get_or, set, replicate, Some, None, Option, sym, refl, ap, ◌∙◌, subst, ap₂, arith}
+use Rattle.std.proofs.Common.{◌≡◌, ℕ, ◌+◌, ◌<◌, ◌≤◌, Bool, false, List, [], length, get_or, set, replicate, None, Option, sym, ap, ◌∙◌, subst, ap₂, arith}
 use Rattle.std.proofs.lemmas.List.{length-map, get_or_default}
-use Rattle.terms.specs.declared.enable.Enable.{Enable}
 use Rattle.settings.specs.declared.card.CardSettings.{CardSettings}
 use Rattle.settings.specs.declared.fibre.FibreSettings.{FibreSettings}
 use Rattle.settings.specs.Settings.{fresh_card, no_fibre, of_fibre}
@@ -16,7 +15,7 @@ use Rattle.card_model.specs.Fibres.{for_fibres}
 use Rattle.card_model.specs.State as model
 use Rattle.card_model.specs.State.{Watch, watch_of, off, fresh}
 use Rattle.card_model.specs.Step.{sent_off, all_sent, resetting}
-use Rattle.card.specs.declared.core.Core.{Core}
+use Rattle.card.specs.declared.inner.Core.{Core}
 use Rattle.card.specs.declared.waiting.Waiting.{Waiting}
 use Rattle.card.specs.Abstraction.{watch_in, watches_in, rows_in, capture_in, state_of}
 use Rattle.card.specs.Queue.{queued}

@@ -1,12 +1,11 @@
 -- A step of all tickers, and how the fibres stand then.
 -- Assumes nothing.
-use Rattle.std.proofs.Common.{◌≡◌, ℕ, ◌+◌, ◌*◌, ◌<◌, ◌≤◌, Bool, true, false, cond, ◌&&◌, ltb, List, [], ◌∷◌, map, length, get_or, set, replicate, sym, refl, ap, ◌∙◌, subst, ap₂, arith}
+use Rattle.std.proofs.Common.{◌≡◌, ℕ, ◌+◌, ◌*◌, ◌<◌, ◌≤◌, Bool, false, ◌&&◌, ltb, List, [], ◌∷◌, map, length, get_or, set, sym, refl, ap, ◌∙◌, subst, ap₂, arith}
 use Rattle.std.specs.List.{range_with_len, AllByRecursion as All}
 use Rattle.std.proofs.lemmas.List.FromFn.{get_or-range_with_len, length-range_with_len}
 use Rattle.std.proofs.ByRecursion.{All-from_get_or}
 use Rattle.std.proofs.lemmas.List.{get_or_default}
 use Rattle.std.proofs.lemmas.Bool.{le-ltb}
-use Rattle.terms.specs.declared.enable.Enable.{Enable}
 use Rattle.terms.specs.declared.pair.Side.TheVariants.{Left, Right}
 use Rattle.terms.specs.Terms.{enabled}
 use Rattle.settings.specs.declared.card.CardSettings.{CardSettings}
@@ -18,7 +17,7 @@ use Rattle.ticker.specs.declared.ticker.Ticker.{Ticker}
 use Rattle.ticker.specs.Step.{is_one, next, pulses, heard}
 use Rattle.synch.specs.declared.chips.Question.TheVariants.{InLock, InStep}
 use Rattle.synch.specs.declared.standing.Standing.{Standing}
-use Rattle.synch.specs.Vote.{one_if, yes_of, count, event}
+use Rattle.synch.specs.Vote.{one_if, count, event}
 use Rattle.card_model.specs.Fibres.{for_fibres}
 use Rattle.card_model.specs.State.{Watch, watch_of, off}
 use Rattle.card_model.specs.Clock.{ticked, watches_after, pulses_with, standings}

@@ -11,7 +11,7 @@ use Rattle.card_model.specs.Fibres.{for_fibres}
 use Rattle.card_model.specs.State as model
 use Rattle.card_model.specs.Clock.{first_sample}
 use Rattle.card.specs.declared.capture.Capture.{Capture}
-use Rattle.card.specs.declared.core.Core.{Core}
+use Rattle.card.specs.declared.inner.Core.{Core}
 use Rattle.card.specs.declared.row.Row.{Row}
 use Rattle.card.specs.Queue.{queued}
 

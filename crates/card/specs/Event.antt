@@ -1,7 +1,7 @@
 -- An event of twelve records, as a completed capture forms it.
 -- Assumes nothing.
 use Rattle.std.specs.Prelude.{◌≡◌, ℕ, ◌+◌, ◌-◌, ◌<◌, ◌≤◌, Bool, cond, List, [], length, take, Some, None, Option, nat_le, nat_lt, slice_index, slice_index_or}
-use Rattle.stores.specs.Store.{waiting, level_of}
+use Rattle.stores.specs.Store.{level_of}
 use Rattle.card_model.specs.Fibres.{for_fibres, lowest}
 use Rattle.card_model.specs.Calls as model
 use Rattle.card_model.specs.Readout.{most_events, lacking, lengths_of}

@@ -1,5 +1,5 @@
 // A card over any rule and any store.
-use crate::core::Core;
+use crate::inner::Core;
 use rules::Rule;
 use stores::Store;
 

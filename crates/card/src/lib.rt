@@ -1,13 +1,15 @@
 // The card: twelve fibres are watched and captured, their events reduced, stored and fetched, over any rule and
 // any store.
+#![tactic(auto)]
+
 pub mod answer;
 pub mod call;
 mod capture;
 pub mod card;
 pub mod clocked;
 mod column;
-mod core;
 mod forming;
+mod inner;
 mod lengths;
 mod putting;
 mod row;

@@ -5,7 +5,7 @@ ghost use Rattle.card_model.specs.State.{fresh};
 ghost use Rattle.card.specs.Abstraction.{state_of};
 
 use super::Card;
-use crate::core::Core;
+use crate::inner::Core;
 use rules::Rule;
 use stores::Store;
 

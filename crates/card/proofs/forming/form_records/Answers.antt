@@ -12,7 +12,7 @@ loop-f-preserved g c =
       length-set c.loop-f.buffers c.loop-f.f _ ∙ inv.0,
       length-set c.loop-f.lengths c.loop-f.f _ ∙ inv.1,
       below_more _ _ c.args.rows.now c.loop-f.buffers c.loop-f.lengths c.loop-f.f _ _ _ c.loop-f-test.true inv.0 inv.1 (omega arith)
-          inv.2 c.form-record.ensures,
+          inv.2 c.form_record.ensures,
     )
 
 pub returns : goal.returns

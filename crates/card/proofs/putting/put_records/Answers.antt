@@ -1,4 +1,4 @@
-use Rattle.std.proofs.Common.{◌≡◌, ℕ, ◌-◌, [], length, get_or, take, sym, refl, ap, ◌∙◌, arith}
+use Rattle.std.proofs.Common.{◌≡◌, ℕ, ◌-◌, [], get_or, take, refl, ap, ◌∙◌, arith}
 use Rattle.stores.proofs.Lists.{not_granted}
 use Rattle.card.proofs.Fibres.{upto_none}
 use Rattle.card.proofs.Losing.{front_length, put_goes, put_more, put_all}

@@ -2,14 +2,14 @@ use Rattle.std.proofs.Common.{◌≡◌, ◌+◌, ◌-◌, ◌<◌, ◌≤◌, l
 use Rattle.card.proofs.Fetching.{before_more, before_le, lists_before, lists_step, lists_all, written_before, record_step, written_step, written_all, length_part}
 use Rattle.card.proofs.taking.take_event.Goals as goal
 
-pub overflow-add-end : goal.overflow-add-end
-overflow-add-end g c =
+pub overflow_add-end : goal.overflow_add-end
+overflow_add-end g c =
     let more = before_more c.args.lengths.now c.loop-f.f in
     let within = before_le c.args.lengths.now (c.loop-f.f + 1) (omega arith) in
     search rules
 
-pub slice-bounds-take-record-end : goal.slice-bounds-take-record-end
-slice-bounds-take-record-end g c =
+pub slice_bounds-take_record-end : goal.slice_bounds-take_record-end
+slice_bounds-take_record-end g c =
     let more = before_more c.args.lengths.now c.loop-f.f in
     let within = before_le c.args.lengths.now (c.loop-f.f + 1) (omega arith) in
     search rules
@@ -28,11 +28,11 @@ loop-f-preserved g c =
     let fits : at + n ≤ length c.loop-f.out = omega arith in
     let count : at + n - at ≡ n = omega arith in
     let long = length_part c.loop-f.out at n fits in
-    let record-taken = record_step lengths lists f inside _ _ _ c.loop-f.invariant.1 long c.take-record.ensures.out in (
+    let record-taken = record_step lengths lists f inside _ _ _ c.loop-f.invariant.1 long c.take_record.ensures.out in (
       omega arith,
-      lists_step lengths lists f inside _ _ _ c.loop-f.invariant.1 long c.take-record.ensures.lists,
+      lists_step lengths lists f inside _ _ _ c.loop-f.invariant.1 long c.take_record.ensures.lists,
       written_step lengths lists c.args.out.now f at _ _ _ c.loop-f.invariant.0 count c.loop-f.invariant.2 record-taken,
-      c.take-record.ensures.room ∙ c.loop-f.invariant.3,
+      c.take_record.ensures.room ∙ c.loop-f.invariant.3,
     )
 
 pub returns : goal.returns

@@ -10,7 +10,7 @@ returns-in-Err g c =
     let out = c.args.out.now in
     let few = fewer_wait (level_of lists f) f (length out) c.in-Err.field-0 c.requires c.in-Err.ensures.answer in
     record {
-      lists = left_alone lists (g.S.Store.lists c.take-all.new.self) f (length out) few c.in-Err.ensures.lists;
-      out = zeros_given (waiting lists f) out c.take-all.new.out c.fill.new.self few c.in-Err.ensures.out (c.fill.ensures.after (λ y e. e));
+      lists = left_alone lists (g.S.Store.lists c.take_all.new.self) f (length out) few c.in-Err.ensures.lists;
+      out = zeros_given (waiting lists f) out c.take_all.new.out c.fill.new.self few c.in-Err.ensures.out (c.fill.ensures.after (λ y e. e));
       room = c.in-Err.ensures.room;
     }

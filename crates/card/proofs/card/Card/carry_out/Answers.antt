@@ -14,24 +14,24 @@ returns-then-answers-calls g c =
       laws = laws_after_list _ (g.met.R.Rule.bounded c.args.self.now.rule) _ _ _ (g.S.Store.sound c.args.self.now.store).limit _;
     }
 
-pub returns-in-err-lent-enough : goal.returns-in-err-lent-enough
-returns-in-err-lent-enough g c =
-    let p = err_from_is_err_and c.from-residual.result c.from-residual.ensures.1 in
+pub returns-in_err-lent_enough : goal.returns-in_err-lent_enough
+returns-in_err-lent_enough g c =
+    let p = err_from_is_err_and c.from_residual.result c.from_residual.ensures.1 in
     record {
-      answer = row_fits c.args.calls.now (length c.args.answers.now) (length c.args.bytes.now) _ c.if-answers-calls.false (p.1 ∙ ap Err p.2 ∙ c.in-err-lent-enough.ensures);
-      run = refused_out _ _ c.args.calls.now c.args.answers.now c.args.bytes.now c.from-residual.result p.0 p.1;
+      answer = row_fits c.args.calls.now (length c.args.answers.now) (length c.args.bytes.now) _ c.if-answers-calls.false (p.1 ∙ ap Err p.2 ∙ c.in_err-lent_enough.ensures);
+      run = refused_out _ _ c.args.calls.now c.args.answers.now c.args.bytes.now c.from_residual.result p.0 p.1;
       rule = refl {a = c.args.self.now.rule};
       laws = laws_after_list _ (g.met.R.Rule.bounded c.args.self.now.rule) _ _ _ (g.S.Store.sound c.args.self.now.store).limit _;
     }
 
 pub answer-requires : goal.answer-requires
 answer-requires g c =
-    let fits = lent_fits c.args.calls.now c.loop-i.i (Load 0) c.loop-i.at (length c.args.bytes.now) c.loop-i-test.true c.loop-i.invariant.1.place c.in-ok-lent-enough.ensures in
+    let fits = lent_fits c.args.calls.now c.loop-i.i (Load 0) c.loop-i.at (length c.args.bytes.now) c.loop-i-test.true c.loop-i.invariant.1.place c.in_ok-lent_enough.ensures in
     omega arith
 
-pub overflow-add-at : goal.overflow-add-at
-overflow-add-at g c =
-    let fits = lent_fits c.args.calls.now c.loop-i.i (Load 0) c.loop-i.at (length c.args.bytes.now) c.loop-i-test.true c.loop-i.invariant.1.place c.in-ok-lent-enough.ensures in
+pub overflow_add-at : goal.overflow_add-at
+overflow_add-at g c =
+    let fits = lent_fits c.args.calls.now c.loop-i.i (Load 0) c.loop-i.at (length c.args.bytes.now) c.loop-i-test.true c.loop-i.invariant.1.place c.in_ok-lent_enough.ensures in
     let is = c.lent-at.ensures in
     search rules
 
@@ -46,7 +46,7 @@ pub returns : goal.returns
 returns g c =
     let end : c.loop-i.i ≡ length c.args.calls.now = omega arith in
     record {
-      answer = row_fits _ _ _ _ c.if-answers-calls.false c.in-ok-lent-enough.ensures;
+      answer = row_fits _ _ _ _ c.if-answers-calls.false c.in_ok-lent_enough.ensures;
       run = upto_all _ _ _ _ _ _ _ _ _ _ c.loop-i.invariant.1 end;
       rule = c.loop-i.invariant.0;
       laws = laws_after_list _ (g.met.R.Rule.bounded c.args.self.now.rule) _ _ _ (g.S.Store.sound c.args.self.now.store).limit _;

@@ -10,7 +10,7 @@ pub returns-in-None : goal.returns-in-None
 returns-in-None g c =
     record {
       step =
-          clock_sought _ c.args.self.now.core _ _ _ _ _ _ (sym c.too-large.ensures ∙ c.in-default.is) c.in-None.is c.tick-pulses.ensures.watches
+          clock_sought _ c.args.self.now.core _ _ _ _ _ _ (sym c.too_large.ensures ∙ c.in_default.is) c.in-None.is c.tick-pulses.ensures.watches
           c.tick-pulses.ensures.pulses (c.seek.ensures _ _);
       rule = refl;
       laws = laws_after _ (g.met.R.Rule.bounded c.args.self.now.rule) _ _ _ (g.S.Store.sound c.args.self.now.store).limit _;
@@ -20,8 +20,8 @@ pub returns-in-Some-capture : goal.returns-in-Some-capture
 returns-in-Some-capture g c =
     record {
       step =
-          clock_captured _ c.args.self.now.core _ _ _ _ _ _ _ (sym c.too-large.ensures ∙ c.in-default.is) c.in-Some-capture.is
-          c.tick-pulses.ensures.watches c.go-on.ensures.outcome;
-      rule = c.go-on.ensures.rule;
+          clock_captured _ c.args.self.now.core _ _ _ _ _ _ _ (sym c.too_large.ensures ∙ c.in_default.is) c.in-Some-capture.is
+          c.tick-pulses.ensures.watches c.go_on.ensures.outcome;
+      rule = c.go_on.ensures.rule;
       laws = laws_after _ (g.met.R.Rule.bounded c.args.self.now.rule) _ _ _ (g.S.Store.sound c.args.self.now.store).limit _;
     }

@@ -10,7 +10,7 @@ pub returns-then-buffer-length : goal.returns-then-buffer-length
 returns-then-buffer-length g c =
     record {
       step =
-          fetch_refused_short _ _ _ c.oldest_lengths.result c.oldest_lengths.ensures _ _ _ c.if-not-self.false c.event-length-length.ensures
+          fetch_refused_short _ _ _ c.oldest-lengths.result c.oldest-lengths.ensures _ _ _ c.if-not-self.false c.event_length-length.ensures
           c.if-buffer-length.true;
       written = refl;
       slip = refl;
@@ -23,18 +23,18 @@ returns g c =
     let core = c.args.self.now.core in
     let lists = g.S.Store.lists c.args.self.now.store in
     let room = g.S.Store.room c.args.self.now.store in
-    let lengths = c.oldest_lengths.result in
-    let same = c.oldest_lengths.ensures in
-    let n = c.event-length-length.result in
-    let long = c.event-length-length.ensures in
+    let lengths = c.oldest-lengths.result in
+    let same = c.oldest-lengths.ensures in
+    let n = c.event_length-length.result in
+    let long = c.event_length-length.ensures in
     record {
       step =
-          fetch_done core lists room lengths same _ _ n c.if-not-self.false long c.if-buffer-length.false _ _ _ _ _ c.take-event.ensures.lists
-          c.take-event.ensures.room c.pop-front.ensures c.take-event.ensures.out;
+          fetch_done core lists room lengths same _ _ n c.if-not-self.false long c.if-buffer-length.false _ _ _ _ _ c.take_event.ensures.lists
+          c.take_event.ensures.room c.pop_front.ensures c.take_event.ensures.out;
       written = (
         oldest_long core lists room lengths same n long,
         c.if-buffer-length.false,
-        bytes_written core lists room lengths same _ _ n long c.take-event.ensures.out,
+        bytes_written core lists room lengths same _ _ n long c.take_event.ensures.out,
       );
       slip = tt;
       rule = refl {a = c.args.self.now.rule};

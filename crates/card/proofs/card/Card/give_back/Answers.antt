@@ -1,4 +1,4 @@
-use Rattle.std.proofs.Common.{refl, rules}
+use Rattle.std.proofs.Common.{refl}
 use Rattle.card.proofs.Calls.{gave_back, gave_back_refused}
 use Rattle.card.proofs.CardLaws.{laws_after}
 use Rattle.card.proofs.card.Card.give_back.Goals as goal

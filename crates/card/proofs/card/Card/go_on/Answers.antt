@@ -1,4 +1,4 @@
-use Rattle.std.proofs.Common.{refl, arith}
+use Rattle.std.proofs.Common.{refl}
 use Rattle.card.proofs.Clocking.{not_last}
 use Rattle.card.proofs.Losing.{last_leads}
 use Rattle.card.proofs.card.Card.go_on.Goals as goal

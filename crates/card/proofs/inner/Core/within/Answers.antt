@@ -1,6 +1,5 @@
-use Rattle.std.proofs.Common.{arith}
 use Rattle.card.proofs.Clocking.{within_quiet, within_synch}
-use Rattle.card.proofs.core.Core.within.Goals as goal
+use Rattle.card.proofs.inner.Core.within.Goals as goal
 
 pub returns-then-capture-ne-SYNCH : goal.returns-then-capture-ne-SYNCH
 returns-then-capture-ne-SYNCH c = within_quiet c.args.capture.position _ c.if-capture-ne-SYNCH.true

@@ -3,7 +3,7 @@ use Rattle.card_model.specs.State.{off}
 use Rattle.card.specs.Abstraction.{watches_in}
 use Rattle.card.proofs.Fibres.{Upto}
 use Rattle.card.proofs.Restarting.{sent-by}
-use Rattle.card.proofs.core.restart.send_all.Given as goal
+use Rattle.card.proofs.inner.restart.send_all.Given as goal
 
 abbrev pub invariant-loop-f : goal.invariant-loop-f
 invariant-loop-f l =

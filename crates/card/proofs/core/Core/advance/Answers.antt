@@ -1,7 +1,0 @@
-use Rattle.std.proofs.Common.{refl}
-use Rattle.card.proofs.Clocking.{advanced_as}
-use Rattle.card.proofs.core.Core.advance.Goals as goal
-
-pub returns : goal.returns
-returns c =
-    advanced_as c.args.self.now c.args.capture _ _ c.args.samples.now _ refl refl c.capture-samples.ensures c.within.ensures

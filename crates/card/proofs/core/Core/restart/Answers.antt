@@ -1,5 +1,0 @@
-use Rattle.card.proofs.Restarting.{restarted_as}
-use Rattle.card.proofs.core.Core.restart.Goals as goal
-
-pub returns : goal.returns
-returns c = restarted_as c.args.self.now _ _ c.requires c.send-all.ensures c.clear.ensures
