@@ -2,7 +2,7 @@
 -- Assumes nothing.
 use Rattle.std.proofs.Common.{◌≡◌, ℕ, ◌+◌, ◌<◌, ◌≤◌, min, leb, List, [], ◌∷◌, map, reverse, length, get_or, take, drop, set, Some, None, Ok, Err, Result, sym, refl, ap, ◌∙◌, subst, ap₂, ⊎_elim, arith}
 use borrow.Rule.Slice.PartMut.{put_mid}
-use Rattle.std.specs.List.{AllByRecursion as All}
+use Rattle.std.specs.List.{AllByRecursion}
 use Rattle.std.proofs.lemmas.List.{map_push, map_more, reverse-append, take_more_set, take_all, take-take, take-append-le, drop-take, drop-drop, drop_at, drop-set-lt, length-take-le, length-drop}
 use Rattle.std.proofs.ByRecursion.{All-push, All-weaker}
 use Rattle.std.proofs.lemmas.Slice.{take-put_mid_below, drop-put_mid}
@@ -160,7 +160,7 @@ answer_kept at xs ys e the.GivenBack h = refl
 answer_kept at xs ys e (the.Level n) h = refl
 answer_kept at xs ys e the.WasReset h = refl
 
-answers_kept : (at : ℕ) (xs ys : List ℕ) → take at xs ≡ take at ys → (row : List Answer) → All (LiesWithin 0 at) row
+answers_kept : (at : ℕ) (xs ys : List ℕ) → take at xs ≡ take at ys → (row : List Answer) → AllByRecursion (LiesWithin 0 at) row
     → map (answer_of xs) row ≡ map (answer_of ys) row
 answers_kept at xs ys e [] h = refl
 answers_kept at xs ys e (a ∷ row) h = ap₂ (λ x l. x ∷ l) (answer_kept at xs ys e a h.0) (answers_kept at xs ys e row h.1)
@@ -222,7 +222,7 @@ pub record Upto (meaning : Meaning) (before : CardState) (cs : List Call) (row :
   pub state : after ≡ state_from meaning before (newest_first (take i cs))
   pub says : reverse (map (answer_of bytes') (take i row')) ≡ answers_from meaning before (newest_first (take i cs))
   pub place : at ≡ lent_in (take i cs)
-  pub lie : All (LiesWithin 0 at) (take i row')
+  pub lie : AllByRecursion (LiesWithin 0 at) (take i row')
   pub later_answers : drop i row' ≡ drop i row
   pub later_bytes : drop at bytes' ≡ drop at bytes
 
@@ -245,10 +245,10 @@ module _ (meaning : Meaning) (before : CardState) (cs : List Call) (row : List A
         (ap reverse (answers_kept at bytes'' bytes' did.earlier (take i row') upto.lie) ∙ upto.says)
         ∙ sym (ap (answers_from meaning before) (newest_more cs i d here))
 
-    lie_more : All (LiesWithin 0 (at + lent_to (get_or cs i d))) (take (i + 1) (set row' i a))
+    lie_more : AllByRecursion (LiesWithin 0 (at + lent_to (get_or cs i d))) (take (i + 1) (set row' i a))
     lie_more =
         let end = at + lent_to (get_or cs i d) in
-        subst (All (LiesWithin 0 end)) (sym (take_more_set row' i a inside))
+        subst (AllByRecursion (LiesWithin 0 end)) (sym (take_more_set row' i a inside))
         (All-push (LiesWithin 0 end) (take i row') a
         (All-weaker (LiesWithin 0 at) (LiesWithin 0 end) (lies_weaker 0 0 at end (omega arith) (omega arith)) (take i row') upto.lie)
         (lies_weaker at 0 end end (omega arith) (omega arith) a did.lies))

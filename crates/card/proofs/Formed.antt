@@ -1,7 +1,7 @@
 -- The records of an event, formed in twelve buffers.
 -- Assumes nothing.
 use Rattle.std.proofs.Common.{◌≡◌, ℕ, ◌+◌, ◌<◌, ◌≤◌, List, [], ◌∷◌, ◌++◌, map, length, get_or, take, drop, set, sym, refl, ap, ◌∙◌, subst, ap₂, ⊎_elim, arith}
-use Rattle.std.specs.List.{range_with_len, AllByRecursion as All}
+use Rattle.std.specs.List.{range_with_len, AllByRecursion}
 use Rattle.std.proofs.lemmas.List.FromFn.{fill_by_all}
 use Rattle.std.proofs.lemmas.List.{length-map, take_at, get_or_default, get_or-set_same, get_or-set_other}
 use Rattle.std.proofs.lemmas.Bool.{cases_eq}
@@ -27,7 +27,7 @@ use Rattle.card.proofs.Columns.{rows_long, row_at}
 use Rattle.card.proofs.Fibres.{filled}
 
 -- a sample has ten bits
-numbers_small : (xs : List Sample) → All TenBits (numbers xs)
+numbers_small : (xs : List Sample) → AllByRecursion TenBits (numbers xs)
 numbers_small [] = tt
 numbers_small (x ∷ xs) = (x.ten_bits, numbers_small xs)
 

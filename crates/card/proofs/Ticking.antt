@@ -1,7 +1,7 @@
 -- A step of all tickers, and how the fibres stand then.
 -- Assumes nothing.
 use Rattle.std.proofs.Common.{◌≡◌, ℕ, ◌+◌, ◌*◌, ◌<◌, ◌≤◌, Bool, false, ◌&&◌, ltb, List, [], ◌∷◌, map, length, get_or, set, sym, refl, ap, ◌∙◌, subst, ap₂, arith}
-use Rattle.std.specs.List.{range_with_len, AllByRecursion as All}
+use Rattle.std.specs.List.{range_with_len, AllByRecursion}
 use Rattle.std.proofs.lemmas.List.FromFn.{get_or-range_with_len, length-range_with_len}
 use Rattle.std.proofs.ByRecursion.{All-from_get_or}
 use Rattle.std.proofs.lemmas.List.{get_or_default}
@@ -115,7 +115,7 @@ module _ (settings : CardSettings) (tickers : List Ticker) (in_step : List Bool)
   stands_all xs start i z all long inv = upto_all stands z start i xs all long inv
 
 -- without a pulse no event begins
-no_votes : (g : ℕ → Standing) (fs : List ℕ) → All (λ f. (g f).in_step ≡ false) fs → count InStep (map g fs) ≡ 0
+no_votes : (g : ℕ → Standing) (fs : List ℕ) → AllByRecursion (λ f. (g f).in_step ≡ false) fs → count InStep (map g fs) ≡ 0
 no_votes g [] a = refl
 no_votes g (f ∷ fs) a =
     ap₂ (λ (m n : ℕ). m + n)

@@ -2,7 +2,7 @@
 -- Assumes nothing.
 use Rattle.std.proofs.Common.{◌≡◌, ℕ, ◌+◌, ◌-◌, ◌<◌, ◌≤◌, Bool, true, false, eqb, ltb, leb, List, [], ◌∷◌, ◌++◌, length, get_or, Some, None, Option, refl, ◌∙◌, subst, arith, lit≤}
 use mathlib.Core.Path.{subst⁻¹}
-use Rattle.std.specs.List.{AllByRecursion as All}
+use Rattle.std.specs.List.{AllByRecursion}
 use Rattle.std.proofs.ByRecursion.{All-push, All-map, All-weaker}
 use Rattle.std.proofs.lemmas.List.{length-map, length_push}
 use Rattle.std.proofs.lemmas.Bool.{cond_both, ltb-false, leb-true, leb-false, eqb-true, eqb-false}
@@ -27,7 +27,7 @@ pub record Captured (c : Capture) : Type 0 where
   pub low : 6 ≤ c.position
   pub high : c.position ≤ last_position
   pub long : length c.columns ≡ c.position - first_sample
-  pub ten_bits : All TenBitColumn c.columns
+  pub ten_bits : AllByRecursion TenBitColumn c.columns
 
 abbrev pub CapturedSoFar : Option Capture → Type 0
 CapturedSoFar None = Unit {0}
@@ -48,10 +48,10 @@ advanced_captured c samples k t e =
     let n : c.position ≡ last_position → ⊥ = eqb-false c.position last_position e in
     record { low = omega arith; high = omega arith; long = grown.0; ten_bits = grown.1 }
   where
-    grown : (length (advanced c samples).columns ≡ c.position + 1 - first_sample) × All TenBitColumn (advanced c samples).columns
+    grown : (length (advanced c samples).columns ≡ c.position + 1 - first_sample) × AllByRecursion TenBitColumn (advanced c samples).columns
     grown =
         cond_both (leb first_sample c.position) (c.columns ++ samples ∷ []) c.columns
-        (λ (cols : List (List ℕ)). (length cols ≡ c.position + 1 - first_sample) × All TenBitColumn cols)
+        (λ (cols : List (List ℕ)). (length cols ≡ c.position + 1 - first_sample) × AllByRecursion TenBitColumn cols)
         (λ w. (omega (arith, length_push c.columns samples, leb-true first_sample c.position w), All-push TenBitColumn c.columns samples k.ten_bits t))
         (λ w. (omega (arith, leb-false first_sample c.position w), k.ten_bits))
 
@@ -90,13 +90,13 @@ run_captured meaning room (c ∷ h) = step_goes_on meaning (state_after meaning 
 -- the columns of a completed event
 pub record Complete (columns : List (List ℕ)) : Type 0 where
   pub places : length columns ≡ 256
-  pub ten_bits : All TenBitColumn columns
+  pub ten_bits : AllByRecursion TenBitColumn columns
 
 -- a fibre has 256 samples in it
 pub row_length : (columns : List (List ℕ)) (f : ℕ) → Complete columns → length (row columns f) ≡ 256
 row_length columns f k = length-map columns (λ column. get_or column f 0) ∙ k.places
 
-pub row_small : (columns : List (List ℕ)) (f : ℕ) → f < 12 → Complete columns → All TenBits (row columns f)
+pub row_small : (columns : List (List ℕ)) (f : ℕ) → f < 12 → Complete columns → AllByRecursion TenBits (row columns f)
 row_small columns f below k =
     All-map TenBits (λ (column : List ℕ). get_or column f 0) columns
     (All-weaker TenBitColumn (λ (column : List ℕ). get_or column f 0 ≤ 1023) (λ column t. t f below) columns k.ten_bits)

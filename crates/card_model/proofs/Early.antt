@@ -2,7 +2,7 @@
 -- Assumes nothing.
 use Rattle.std.proofs.Common.{◌≡◌, ℕ, ◌-◌, ◌*◌, ◌/◌, ◌<◌, ◌≤◌, false, leb, List, [], ◌∷◌, ◌++◌, length, drop, Some, None, Ok, Option, refl, ap, ◌∙◌, subst, arith}
 use mathlib.Core.Path.{subst⁻¹}
-use Rattle.std.specs.List.{AllByRecursion as All}
+use Rattle.std.specs.List.{AllByRecursion}
 use Rattle.std.proofs.lemmas.List.{length-map, length-append}
 use Rattle.std.proofs.lemmas.Bool.{cond-false, le-ltb, lt-leb}
 use Rattle.rules.specs.Rules.{Meaning}
@@ -132,7 +132,7 @@ same_length (n ∷ ms) [] k = absurd k
 same_length (n ∷ ms) (x ∷ es) k = omega (arith, same_length ms es k.1)
 
 -- what waits on a fibre
-stacked_short : (ms : List Mode) (es : List (List (List ℕ))) → ShortEach ms es → All (λ mode. mode ≡ ZeroSuppression) ms
+stacked_short : (ms : List Mode) (es : List (List (List ℕ))) → ShortEach ms es → AllByRecursion (λ mode. mode ≡ ZeroSuppression) ms
     → (f : ℕ) → f < 12 → length (stacked es f) ≤ 267 * length ms
 stacked_short [] [] k a f below = omega arith
 stacked_short [] (x ∷ es) k a f below = absurd k
@@ -144,7 +144,7 @@ stacked_short (n ∷ ms) (x ∷ es) k a f below =
 -- ---- room for one more
 
 module _ (room : ℕ) (small : room ≤ largest) (ms : List Mode) (es : List (List (List ℕ))) (r : Readout) (h : Holds room es r)
-    (k : ShortEach ms es) (all : All (λ mode. mode ≡ ZeroSuppression) ms) (few : length ms < room / 267) where
+    (k : ShortEach ms es) (all : AllByRecursion (λ mode. mode ≡ ZeroSuppression) ms) (few : length ms < room / 267) where
   fits : (e : List (List ℕ)) → Short e → (f : ℕ) → f < 12 → exceeds r e f ≡ false
   fits e short f below =
       let level_is : level_of r.lists f ≡ length (stacked es f) = ap length (h.each f below) in

@@ -2,7 +2,7 @@
 -- Assumes nothing.
 use Rattle.std.proofs.Common.{◌≡◌, ℕ, zero, suc, ◌+◌, ◌<◌, ◌≤◌, Bool, true, false, cond, List, [], ◌∷◌, ◌++◌, map, length, get_or, Some, None, sum_by, Option, sym, refl, ap, ◌∙◌, subst, ap₂, ⊎_elim, arith}
 use mathlib.Core.Path.{subst⁻¹}
-use Rattle.std.specs.List.{range_with_len, flat_map, AllByRecursion as All}
+use Rattle.std.specs.List.{range_with_len, flat_map, AllByRecursion}
 use Rattle.std.proofs.lemmas.List.FromFn.{get_or-range_with_len, length-map-range_with_len, get_or-map-range_with_len}
 use Rattle.std.proofs.ByRecursion.{All-from_get_or, All-get_or}
 use Rattle.std.proofs.lemmas.List.{length-append}
@@ -11,24 +11,24 @@ use Rattle.std.proofs.lemmas.Bool.{cases_eq}
 use Rattle.card_model.specs.Fibres.{for_fibres, total, in_fibre_order, first_of, lowest}
 
 -- what holds of each fibre holds of the list of fibres
-all_fibres : (P : ℕ → Type 0) → ((f : ℕ) → f < 12 → P f) → All P (range_with_len 0 12)
+all_fibres : (P : ℕ → Type 0) → ((f : ℕ) → f < 12 → P f) → AllByRecursion P (range_with_len 0 12)
 all_fibres P h =
     All-from_get_or P (range_with_len 0 12) 0
     (λ i below.
     let e : get_or (range_with_len 0 12) i 0 ≡ 0 + i = get_or-range_with_len 0 12 i 0 below in
     subst⁻¹ P e (h (0 + i) (omega arith)))
 
-each_fibre : (P : ℕ → Type 0) → All P (range_with_len 0 12) → (f : ℕ) → f < 12 → P f
+each_fibre : (P : ℕ → Type 0) → AllByRecursion P (range_with_len 0 12) → (f : ℕ) → f < 12 → P f
 each_fibre P h f below =
     let e : get_or (range_with_len 0 12) f 0 ≡ 0 + f = get_or-range_with_len 0 12 f 0 below in
     let z : 0 + f ≡ f = omega arith in
     subst P (e ∙ z) (All-get_or P (range_with_len 0 12) f 0 below h)
 
-same_map : {X : Type 0} (g h : ℕ → X) (fs : List ℕ) → All (λ f. g f ≡ h f) fs → map g fs ≡ map h fs
+same_map : {X : Type 0} (g h : ℕ → X) (fs : List ℕ) → AllByRecursion (λ f. g f ≡ h f) fs → map g fs ≡ map h fs
 same_map g h [] a = refl
 same_map g h (f ∷ fs) a = ap₂ (λ x xs. x ∷ xs) a.0 (same_map g h fs a.1)
 
-same_sum : (g h : ℕ → ℕ) (fs : List ℕ) → All (λ f. g f ≡ h f) fs → sum_by g fs ≡ sum_by h fs
+same_sum : (g h : ℕ → ℕ) (fs : List ℕ) → AllByRecursion (λ f. g f ≡ h f) fs → sum_by g fs ≡ sum_by h fs
 same_sum g h [] a = refl
 same_sum g h (f ∷ fs) a =
     sum_by-cons g f fs ∙ (ap₂ (λ (m n : ℕ). m + n) a.0 (same_sum g h fs a.1) ∙ sym (sum_by-cons h f fs))
@@ -38,7 +38,7 @@ sum_add g h [] = refl
 sum_add g h (f ∷ fs) =
     omega (arith, sum_by-cons (λ x. g x + h x) f fs, sum_by-cons g f fs, sum_by-cons h f fs, sum_add g h fs)
 
-same_joined : (g h : ℕ → List ℕ) (fs : List ℕ) → All (λ f. g f ≡ h f) fs → flat_map g fs ≡ flat_map h fs
+same_joined : (g h : ℕ → List ℕ) (fs : List ℕ) → AllByRecursion (λ f. g f ≡ h f) fs → flat_map g fs ≡ flat_map h fs
 same_joined g h [] a = refl
 same_joined g h (f ∷ fs) a = ap₂ (λ (xs ys : List ℕ). xs ++ ys) a.0 (same_joined g h fs a.1)
 
@@ -47,21 +47,21 @@ length_joined g [] = refl
 length_joined g (f ∷ fs) =
     omega (arith, length-append (g f) (flat_map g fs), length_joined g fs, sum_by-cons (λ x. length (g x)) f fs)
 
-same_first : (p q : ℕ → Bool) (fs : List ℕ) → All (λ f. p f ≡ q f) fs → first_of p fs ≡ first_of q fs
+same_first : (p q : ℕ → Bool) (fs : List ℕ) → AllByRecursion (λ f. p f ≡ q f) fs → first_of p fs ≡ first_of q fs
 same_first p q [] a = refl
 same_first p q (f ∷ fs) a = ap₂ (λ (b : Bool) (o : Option ℕ). cond b (Some f) o) a.0 (same_first p q fs a.1)
 
 -- a test that no fibre passes has no first one, and the other way round
-first_none : (p : ℕ → Bool) (fs : List ℕ) → All (λ f. p f ≡ false) fs → first_of p fs ≡ None
+first_none : (p : ℕ → Bool) (fs : List ℕ) → AllByRecursion (λ f. p f ≡ false) fs → first_of p fs ≡ None
 first_none p [] a = refl
 first_none p (f ∷ fs) a = ap (λ (b : Bool). cond b (Some f) (first_of p fs)) a.0 ∙ first_none p fs a.1
 
-none_first : (p : ℕ → Bool) (fs : List ℕ) → first_of p fs ≡ None → All (λ f. p f ≡ false) fs
+none_first : (p : ℕ → Bool) (fs : List ℕ) → first_of p fs ≡ None → AllByRecursion (λ f. p f ≡ false) fs
 none_first p [] e = tt
 none_first p (f ∷ fs) e = split (p f) refl e (none_first p fs)
   where
     split : (b : Bool) → p f ≡ b → cond b (Some f) (first_of p fs) ≡ None
-        → (first_of p fs ≡ None → All (λ x. p x ≡ false) fs) → (p f ≡ false) × All (λ x. p x ≡ false) fs
+        → (first_of p fs ≡ None → AllByRecursion (λ x. p x ≡ false) fs) → (p f ≡ false) × AllByRecursion (λ x. p x ≡ false) fs
     split true q w more = let z : ◌≡◌ {A = ℕ} 0 1 = cc in absurd (omega arith)
     split false q w more = (q, more w)
 

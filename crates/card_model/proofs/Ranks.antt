@@ -1,7 +1,7 @@
 -- The rank settings of a card have eight bits after every list of calls.
 -- Assumes nothing.
 use Rattle.std.proofs.Common.{ℕ, zero, suc, ◌/◌, ◌^◌, ◌<◌, eqb, List, [], ◌∷◌, get_or, replicate, Some, None, Ok, Err, Option, Result, subst, lit<}
-use Rattle.std.specs.List.{AllByRecursion as All}
+use Rattle.std.specs.List.{AllByRecursion}
 use Rattle.std.proofs.lemmas.Nat.{mod_below}
 use Rattle.std.proofs.ByRecursion.{All-set}
 use Rattle.std.proofs.lemmas.Bool.{cond_both}
@@ -58,18 +58,18 @@ decoded_fits word = by (refusal word)
     by None = setting_fits word
 
 -- what holds of all and of the default holds wherever one looks
-getD_fits : {X : Type 0} (P : X → Type 0) (xs : List X) (i : ℕ) (d : X) → P d → All P xs → P (get_or xs i d)
+getD_fits : {X : Type 0} (P : X → Type 0) (xs : List X) (i : ℕ) (d : X) → P d → AllByRecursion P xs → P (get_or xs i d)
 getD_fits P [] i d h a = h
 getD_fits P (x ∷ xs) zero d h a = a.0
 getD_fits P (x ∷ xs) (suc i) d h a = getD_fits P xs i d h a.1
 
-all_replicate : {X : Type 0} (P : X → Type 0) (n : ℕ) (x : X) → P x → All P (replicate n x)
+all_replicate : {X : Type 0} (P : X → Type 0) (n : ℕ) (x : X) → P x → AllByRecursion P (replicate n x)
 all_replicate P zero x h = tt
 all_replicate P (suc n) x h = (h, all_replicate P n x h)
 
 -- the rank settings of all fibres
 abbrev pub AllFit : CardSettings → Type 0
-AllFit card = All RanksFit card.fibres
+AllFit card = AllByRecursion RanksFit card.fibres
 
 pub fibre_fits : (card : CardSettings) (f : ℕ) → AllFit card → RanksFit (of_fibre card f)
 unfolding no_fibre

@@ -2,7 +2,7 @@
 -- Assumes nothing.
 use Rattle.std.proofs.Common.{◌≡◌, ℕ, ◌<◌, true, List, [], ◌∷◌, ◌++◌, map, length, Some, None, Option, sym, refl, ap, ◌∙◌, subst, arith}
 use mathlib.Core.Path.{subst⁻¹}
-use Rattle.std.specs.List.{range_with_len, flat_map, AllByRecursion as All}
+use Rattle.std.specs.List.{range_with_len, flat_map, AllByRecursion}
 use Rattle.std.proofs.ByRecursion.{All-push, All-drop, All-from_get_or}
 use Rattle.rules.specs.Rules.{Meaning}
 use Rattle.settings.specs.declared.card.CardSettings.{CardSettings}
@@ -130,7 +130,7 @@ abbrev IsEvent : List (List ℕ) → Type 0
 IsEvent e = (event : Event) × EventOk event × (in_fibre_order (record_of e) ≡ bytes_of event)
 
 -- what holds of each event kept holds of those that wait
-all_moved : (P : List (List ℕ) → Type 0) (e : List (List ℕ)) (a : Answer) (es : List (List (List ℕ))) → (IsKept a → P e) → All P es → All P (moved e a es)
+all_moved : (P : List (List ℕ) → Type 0) (e : List (List ℕ)) (a : Answer) (es : List (List (List ℕ))) → (IsKept a → P e) → AllByRecursion P es → AllByRecursion P (moved e a es)
 all_moved P e (kept n) es h k = All-push P es e k (h tt)
 all_moved P e (fetched bytes) es h k = All-drop P 1 es k
 all_moved P e was_reset es h k = tt
@@ -165,7 +165,7 @@ module _ (formed : RecordsOfTheLayout) (meaning : Meaning) (bounded : Bounded me
         ∙ joined_map (record_bytes (kind_in settings.mode)) (contents settings columns) (range_with_len 0 12),
   )
 
-  run_events : (room : ℕ) (calls : List Call) → All IsEvent (records_waiting meaning room calls)
+  run_events : (room : ℕ) (calls : List Call) → AllByRecursion IsEvent (records_waiting meaning room calls)
   run_events room [] = tt
   run_events room (c ∷ h) =
       let s = state_after meaning room h in
@@ -180,7 +180,7 @@ module _ (formed : RecordsOfTheLayout) (meaning : Meaning) (bounded : Bounded me
       let o = fetch_gives_oldest meaning room h c bytes e in
       first (records_waiting meaning room h) o.0 (run_events room h) o.1
     where
-      first : (es : List (List (List ℕ))) → 0 < length es → All IsEvent es → bytes ≡ in_fibre_order (record_of (oldest_of es))
+      first : (es : List (List (List ℕ))) → 0 < length es → AllByRecursion IsEvent es → bytes ≡ in_fibre_order (record_of (oldest_of es))
           → (event : Event) × EventOk event × (bytes ≡ bytes_of event)
       first [] some all w = absurd (omega arith)
       first (x ∷ es) some all w = (all.0.0, all.0.1, w ∙ all.0.2)

@@ -1,7 +1,7 @@
 -- The laws of a card over every list of calls.
 -- Assumes nothing.
 use Rattle.std.specs.Prelude.{◌≡◌, ℕ, ◌+◌, ◌/◌, ◌<◌, ◌≤◌, List, [], ◌∷◌, length, Some}
-use Rattle.std.specs.List.{AllByRecursion as All}
+use Rattle.std.specs.List.{AllByRecursion}
 use Rattle.rules.specs.Rules.{Meaning, ShiftLaw}
 use Rattle.stores.specs.Store.{level_of, largest}
 use Rattle.settings.specs.declared.mode.Mode.TheVariants.{ZeroSuppression}
@@ -53,7 +53,7 @@ NoEarlyLoss meaning room [] = Unit {0}
 NoEarlyLoss meaning room (c ∷ h) =
     NoEarlyLoss meaning room h
     × (completed (state_after meaning room h) c ≡ Some ZeroSuppression
-    → All (λ mode. mode ≡ ZeroSuppression) (modes_waiting meaning room h)
+    → AllByRecursion (λ mode. mode ≡ ZeroSuppression) (modes_waiting meaning room h)
     → length (modes_waiting meaning room h) < room / longest ZeroSuppressed
     → IsKept (answer_after meaning room h c))
 

@@ -1,6 +1,6 @@
 -- The clusters of a chip are just the longest runs of strips that belong.
 use Rattle.std.proofs.Common.{◌≡◌, ℕ, zero, suc, ◌+◌, ◌-◌, ◌<◌, ◌≤◌, Bool, true, false, ◌⊎◌, List, [], ◌∷◌, length, get_or, sym, refl, ap, ◌∙◌, subst, inl, inr, ⊎_elim, arith}
-use Rattle.std.specs.List.{ContainsAt as Has, HoldsAt}
+use Rattle.std.specs.List.{ContainsAt, HoldsAt}
 use Rattle.std.proofs.ByRecursion.{has_append_right}
 use Rattle.std.proofs.lemmas.Bool.{both_ways, cases_eq, cases_lt, cases_order}
 use Rattle.layout.specs.declared.run.Run.{Run}
@@ -10,30 +10,30 @@ use Rattle.clusters.proofs.Following.{ended_before}
 use Rattle.clusters.proofs.Spacing.{ended_some}
 
 -- ---- the runs that a list has
-has_by_place : (x : Run) (xs : List Run) (r : Run) (k : ℕ) → k < length (x ∷ xs) → HoldsAt (λ y. y ≡ r) (x ∷ xs) k → (x ≡ r) ⊎ Has xs r
+has_by_place : (x : Run) (xs : List Run) (r : Run) (k : ℕ) → k < length (x ∷ xs) → HoldsAt (λ y. y ≡ r) (x ∷ xs) k → (x ≡ r) ⊎ ContainsAt xs r
 has_by_place x xs r zero l a = inl (a r)
 has_by_place x xs r (suc k) l a = inr (k, omega arith, a)
 
-has_cases : (x : Run) (xs : List Run) (r : Run) → Has (x ∷ xs) r → (x ≡ r) ⊎ Has xs r
+has_cases : (x : Run) (xs : List Run) (r : Run) → ContainsAt (x ∷ xs) r → (x ≡ r) ⊎ ContainsAt xs r
 has_cases x xs r h = has_by_place x xs r h.0 h.1 h.2
 
 -- a run that ends, or one behind it
-has_ended : (at n : ℕ) (rest : List Run) → 1 ≤ n → Has (ended at n rest) (record { address = at - n; strips = n })
+has_ended : (at n : ℕ) (rest : List Run) → 1 ≤ n → ContainsAt (ended at n rest) (record { address = at - n; strips = n })
 has_ended at n rest some =
-    subst (λ rs. Has rs (record { address = at - n; strips = n })) (sym (ended_some at n rest some)) (0, omega arith, λ d. refl)
+    subst (λ rs. ContainsAt rs (record { address = at - n; strips = n })) (sym (ended_some at n rest some)) (0, omega arith, λ d. refl)
 
-has_behind : (at n : ℕ) (rest : List Run) (r : Run) → Has rest r → Has (ended at n rest) r
-has_behind at n rest r h = subst (λ rs. Has rs r) (sym (ended_before at n rest)) (has_append_right (ended at n []) rest r h)
+has_behind : (at n : ℕ) (rest : List Run) (r : Run) → ContainsAt rest r → ContainsAt (ended at n rest) r
+has_behind at n rest r h = subst (λ rs. ContainsAt rs r) (sym (ended_before at n rest)) (has_append_right (ended at n []) rest r h)
 
 ended_cases :
     (at n : ℕ) (rest : List Run) (r : Run) →
-    Has (ended at n rest) r →
-    ((1 ≤ n) × (record { address = at - n; strips = n } ≡ r)) ⊎ Has rest r
+    ContainsAt (ended at n rest) r →
+    ((1 ≤ n) × (record { address = at - n; strips = n } ≡ r)) ⊎ ContainsAt rest r
 ended_cases at zero rest r h = inr h
 ended_cases at (suc n) rest r h =
     let some : 1 ≤ suc n = omega arith in
     ⊎_elim (λ e. inl (some, e)) inr
-    (has_cases (record { address = at - suc n; strips = suc n }) rest r (subst (λ rs. Has rs r) (ended_some at (suc n) rest some) h))
+    (has_cases (record { address = at - suc n; strips = suc n }) rest r (subst (λ rs. ContainsAt rs r) (ended_some at (suc n) rest some) h))
 
 -- ---- a place in a list of flags
 -- what is left from a place on
@@ -121,11 +121,11 @@ has_ending :
     Open flags p n →
     Longest first flags r →
     r.address + r.strips ≡ at →
-    Has (ended at n rest) r
+    ContainsAt (ended at n rest) r
 has_ending first flags at p n rest r e h l f =
     let same : n ≡ r.strips = ends_strips first flags p n r h l (omega arith) in
     let some : 1 ≤ n = omega (arith, l.some) in
-    subst (Has (ended at n rest)) (run_is r (at - n) n (omega arith) same) (has_ended at n rest some)
+    subst (ContainsAt (ended at n rest)) (run_is r (at - n) n (omega arith) same) (has_ended at n rest some)
 
 -- ---- each cluster is a longest run
 sound :
@@ -133,7 +133,7 @@ sound :
     at ≡ first + p →
     Rest flags p rest →
     Open flags p n →
-    Has (runs_from at n rest) r →
+    ContainsAt (runs_from at n rest) r →
     Longest first flags r
 unfolding runs_from
 sound first flags at p n [] r e s h has =
@@ -160,7 +160,7 @@ complete :
     Open flags p n →
     Longest first flags r →
     at ≤ r.address + r.strips →
-    Has (runs_from at n rest) r
+    ContainsAt (runs_from at n rest) r
 unfolding runs_from
 complete first flags at p n [] r e s h l ends =
     has_ending first flags at p n [] r e h l (omega (arith, l.within, s.0))

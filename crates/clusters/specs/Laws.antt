@@ -1,7 +1,7 @@
 -- What belongs and what a cluster is, in the words of whoever looks for hits.
 -- Assumes nothing.
 use Rattle.std.specs.Prelude.{◌≡◌, ℕ, suc, ◌+◌, ◌-◌, ◌<◌, ◌≤◌, Bool, true, false, ◌&&◌, ◌||◌, List, ◌∷◌, length, get_or, sum_by, nat_lt, slice_index_or}
-use Rattle.std.specs.List.{ContainsAt as Has}
+use Rattle.std.specs.List.{ContainsAt}
 use Rattle.layout.specs.declared.run.Run.{Run}
 use Rattle.layout.specs.Places.{spaced}
 use Rattle.clusters.specs.declared.reached.Reached.{Reached}
@@ -43,8 +43,8 @@ pub record Longest (first : ℕ) (belonging : List Bool) (r : Run) : Type 0 wher
 abbrev pub ClustersAreLongestRuns : Type 0
 ClustersAreLongestRuns =
     (first : ℕ) (belonging : List Bool) (r : Run)
-    → (Has (runs_from first 0 belonging) r → Longest first belonging r)
-    × (Longest first belonging r → Has (runs_from first 0 belonging) r)
+    → (ContainsAt (runs_from first 0 belonging) r → Longest first belonging r)
+    × (Longest first belonging r → ContainsAt (runs_from first 0 belonging) r)
 
 -- the clusters of a fibre lie in strip order within their chips, with two free strips between two of one chip
 abbrev pub ClustersInPlace : Type 0

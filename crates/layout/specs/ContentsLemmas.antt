@@ -1,7 +1,7 @@
 -- What the types that a writer takes hold is well-formed, and how many bytes it has.
 use Rattle.std.specs.Prelude.{◌≡◌, ℕ, ◌+◌, ◌<◌, ◌≤◌, true, List, [], ◌∷◌, map, length, take, drop, slice_index_or, refl}
 use Rattle.std.proofs.Common.{sym, ap, subst, ◌∙◌, arith}
-use Rattle.std.specs.List.{flat_map, AllByRecursion as All}
+use Rattle.std.specs.List.{flat_map, AllByRecursion}
 use Rattle.std.proofs.lemmas.List.{length-take-le, length-drop}
 use Rattle.std.proofs.ByRecursion.{All-weaker, All-take, All-drop, All-get_or}
 use Rattle.layout.specs.declared.run.Run.{Run}
@@ -31,7 +31,7 @@ covers : (values : List ℕ) (r : Run) → length values ≡ 256 → r.address +
 covers values r long h = let p = values_on values r long h in λ i. record { address = r.address; strips = p i }
 
 -- each run of a fibre ends on it
-ends_on_fibre : (rs : List Run) → spaced rs ≡ true → All OnFibre rs → All (λ r. r.address + r.strips ≤ 256) rs
+ends_on_fibre : (rs : List Run) → spaced rs ≡ true → AllByRecursion OnFibre rs → AllByRecursion (λ r. r.address + r.strips ≤ 256) rs
 ends_on_fibre [] e h = tt
 ends_on_fibre (r ∷ rs) e h = (run_ends r rs e h.0, ends_on_fibre rs (spaced_tail r rs e) h.1)
 
@@ -39,7 +39,7 @@ all_cover :
     (values : List ℕ) (rs : List Run) →
     length values ≡ 256 →
     spaced rs ≡ true →
-    All OnFibre rs →
+    AllByRecursion OnFibre rs →
     map run_of (map (cluster_on values) rs) ≡ rs
 all_cover values [] long e h = refl
 all_cover values (r ∷ rs) long e h =
@@ -47,7 +47,7 @@ all_cover values (r ∷ rs) long e h =
     let more = all_cover values rs long (spaced_tail r rs e) h.1 in
     λ i. one i ∷ more i
 
-all_bytes : (values : List ℕ) (rs : List Run) → All Byte values → All OnFibre rs → All ClusterBytes (map (cluster_on values) rs)
+all_bytes : (values : List ℕ) (rs : List Run) → AllByRecursion Byte values → AllByRecursion OnFibre rs → AllByRecursion ClusterBytes (map (cluster_on values) rs)
 all_bytes values [] b h = tt
 all_bytes values (r ∷ rs) b h =
     ((h.0, All-take Byte r.strips (drop r.address values) (All-drop Byte r.address values b)), all_bytes values rs b h.1)
@@ -67,8 +67,8 @@ runs_taken s = taken_most (listed s.runs) s.runs.in_order (on_fibre_all (listed 
 -- a run of a content ends on the fibre
 pub run_ends_at : (s : Suppressed) (rs : List Run) (i : ℕ) (d : Run) → rs ≡ listed s.runs → i < length rs → (slice_index_or rs i d).address + (slice_index_or rs i d).strips ≤ 256
 run_ends_at s rs i d e h =
-    let all : All (λ r. r.address + r.strips ≤ 256) rs =
-    subst (All (λ r. r.address + r.strips ≤ 256)) (sym e) (ends_on_fibre (listed s.runs) s.runs.in_order (on_fibre_all (listed s.runs) s.runs.on_strips)) in
+    let all : AllByRecursion (λ r. r.address + r.strips ≤ 256) rs =
+    subst (AllByRecursion (λ r. r.address + r.strips ≤ 256)) (sym e) (ends_on_fibre (listed s.runs) s.runs.in_order (on_fibre_all (listed s.runs) s.runs.on_strips)) in
     All-get_or (λ r. r.address + r.strips ≤ 256) rs i d h all
 
 -- ---- they are contents of the layout

@@ -1,7 +1,7 @@
 -- What an event is, and which bytes stand for it.
 -- Assumes nothing.
 use Rattle.std.specs.Prelude.{◌≡◌, ℕ, ◌+◌, ◌/◌, ◌%◌, ◌<◌, ◌≤◌, true, cond, List, [], ◌∷◌, ◌++◌, map, length, Some, None, Option, ◌==◌}
-use Rattle.std.specs.List.{flat_map, AllByRecursion as All}
+use Rattle.std.specs.List.{flat_map, AllByRecursion}
 use Rattle.terms.specs.declared.pair.Pair.{Pair}
 use Rattle.layout.specs.declared.kind.Kind.{Kind}
 use Rattle.layout.specs.declared.kind.Kind.TheVariants.{ZeroSuppressed, ProcessedRaw, VirginRaw}
@@ -26,7 +26,7 @@ run_of c = record { address = c.address; strips = length c.values }
 
 -- an address and the reduced values are bytes
 abbrev pub ClusterBytes : Cluster → Type 0
-ClusterBytes c = Byte c.address × All Byte c.values
+ClusterBytes c = Byte c.address × AllByRecursion Byte c.values
 
 -- the content of a record: common modes and clusters, or the words of a raw record
 pub data Content : Type 0 where
@@ -41,16 +41,16 @@ pub record Event : Type 0 where
 -- a content that a record of a kind may have
 abbrev pub ContentOk : Kind → Content → Type 0
 ContentOk ZeroSuppressed (suppressed m cs) =
-    TenBits m.left × TenBits m.right × (spaced (map run_of cs) ≡ true) × All ClusterBytes cs
+    TenBits m.left × TenBits m.right × (spaced (map run_of cs) ≡ true) × AllByRecursion ClusterBytes cs
 ContentOk ZeroSuppressed (words ws) = ⊥
 ContentOk ProcessedRaw (suppressed m cs) = ⊥
-ContentOk ProcessedRaw (words ws) = (length ws ≡ 256) × All TenBits ws
+ContentOk ProcessedRaw (words ws) = (length ws ≡ 256) × AllByRecursion TenBits ws
 ContentOk VirginRaw (suppressed m cs) = ⊥
-ContentOk VirginRaw (words ws) = (length ws ≡ 256) × All TenBits ws
+ContentOk VirginRaw (words ws) = (length ws ≡ 256) × AllByRecursion TenBits ws
 
 -- twelve records of one kind
 abbrev pub EventOk : Event → Type 0
-EventOk e = (length e.contents ≡ 12) × All (ContentOk e.kind) e.contents
+EventOk e = (length e.contents ≡ 12) × AllByRecursion (ContentOk e.kind) e.contents
 
 -- the packet code of each kind
 abbrev pub code : Kind → ℕ

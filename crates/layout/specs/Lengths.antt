@@ -1,7 +1,7 @@
 -- How long records are.
 use Rattle.std.specs.Prelude.{◌≡◌, ℕ, ◌+◌, ◌*◌, ◌≤◌, true, List, [], ◌∷◌, map, length, refl}
 use Rattle.std.proofs.Common.{arith}
-use Rattle.std.specs.List.{flat_map, AllByRecursion as All}
+use Rattle.std.specs.List.{flat_map, AllByRecursion}
 use Rattle.std.proofs.lemmas.List.{length-append, length-map}
 use Rattle.layout.specs.declared.kind.Kind.{Kind}
 use Rattle.layout.specs.declared.kind.Kind.TheVariants.{ZeroSuppressed, ProcessedRaw, VirginRaw}
@@ -17,12 +17,12 @@ clusters_length (c ∷ cs) =
     let i = clusters_length cs in
     let a = length-append c.values (flat_map cluster_bytes cs) in omega arith
 
-clusters_on_fibre : (cs : List Cluster) → All ClusterBytes cs → All OnFibre (map run_of cs)
+clusters_on_fibre : (cs : List Cluster) → AllByRecursion ClusterBytes cs → AllByRecursion OnFibre (map run_of cs)
 clusters_on_fibre [] h = tt
 clusters_on_fibre (c ∷ cs) h = (h.0.0, clusters_on_fibre cs h.1)
 
 -- the clusters of a record take at most 260 bytes
-pub clusters_most : (cs : List Cluster) → spaced (map run_of cs) ≡ true → All ClusterBytes cs → length (flat_map cluster_bytes cs) ≤ 260
+pub clusters_most : (cs : List Cluster) → spaced (map run_of cs) ≡ true → AllByRecursion ClusterBytes cs → length (flat_map cluster_bytes cs) ≤ 260
 clusters_most cs e h =
     let l = clusters_length cs in
     let t = taken_most (map run_of cs) e (clusters_on_fibre cs h) in omega arith

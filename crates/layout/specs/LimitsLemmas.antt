@@ -1,13 +1,13 @@
 -- Limits of numbers: the test of a list, element by element.
 use Rattle.std.specs.Prelude.{◌≡◌, ℕ, suc, ◌+◌, ◌<◌, ◌≤◌, Bool, true, false, ◌&&◌, List, [], ◌∷◌, ◌++◌, length, take, nat_le, slice_index, refl}
 use Rattle.std.proofs.Common.{sym, ap, ◌∙◌, arith}
-use Rattle.std.specs.List.{AllByRecursion as All}
+use Rattle.std.specs.List.{AllByRecursion}
 use Rattle.std.proofs.lemmas.List.{take_more}
 use Rattle.std.proofs.lemmas.Bool.{and_parts, and_from, leb-true, le-leb}
 use Rattle.std.proofs.lemmas.Bool.Decides.{nat_tests}
 use Rattle.layout.specs.Limits.{at_most}
 
-pub at_most_all : (limit : ℕ) (xs : List ℕ) → at_most limit xs ≡ true → All (λ x. x ≤ limit) xs
+pub at_most_all : (limit : ℕ) (xs : List ℕ) → at_most limit xs ≡ true → AllByRecursion (λ x. x ≤ limit) xs
 at_most_all limit [] e = tt
 at_most_all limit (x ∷ xs) e =
     let h = and_parts (nat_le x limit) (at_most limit xs) e in

@@ -1,7 +1,7 @@
 -- Where runs lie, in numbers: what the tests say, one more run at the end, and how much room runs take.
 use Rattle.std.specs.Prelude.{◌≡◌, ℕ, ◌+◌, ◌-◌, ◌*◌, ◌/◌, ◌%◌, ◌<◌, ◌≤◌, Bool, true, false, not, ◌&&◌, ◌||◌, leb, ◌⊎◌, List, [], ◌∷◌, ◌++◌, length, take, ◌≢◌, nat_eq, nat_le, nat_lt, slice_index_or, refl}
 use Rattle.std.proofs.Common.{ap, ◌∙◌, inl, inr, ⊎_elim, arith}
-use Rattle.std.specs.List.{AllByRecursion as All}
+use Rattle.std.specs.List.{AllByRecursion}
 use Rattle.std.proofs.lemmas.List.{take_more, length_push, length-take-le}
 use Rattle.std.proofs.lemmas.Bool.{and_parts, and_from, and_right, or_cases, leb-true, ltb-true, lt-ltb, eqb-false, not-true}
 use Rattle.layout.specs.declared.run.Run.{Run}
@@ -64,7 +64,7 @@ taken_step a n b t p l h (inr f) i = omega arith
 pub taken_from :
     (r : Run) (rs : List Run) →
     spaced (r ∷ rs) ≡ true →
-    All OnFibre (r ∷ rs) →
+    AllByRecursion OnFibre (r ∷ rs) →
     taken (r ∷ rs) + r.address + 2 * (r.address / 128) ≤ 260
 taken_from r [] e h =
     let p = placed_parts r e in
@@ -76,7 +76,7 @@ taken_from r (q ∷ rs) e h =
     (taken_from q rs (spaced_tail r (q ∷ rs) e) h.1)
 
 -- a chip's clusters take at most 130 bytes, and a fibre's 260
-pub taken_most : (rs : List Run) → spaced rs ≡ true → All OnFibre rs → taken rs ≤ 260
+pub taken_most : (rs : List Run) → spaced rs ≡ true → AllByRecursion OnFibre rs → taken rs ≤ 260
 taken_most [] e h = omega arith
 taken_most (r ∷ rs) e h = let t = taken_from r rs e h in omega arith
 
@@ -88,7 +88,7 @@ taken_least (r ∷ rs) e =
     let p = placed_parts r (spaced_head r rs e) in omega arith
 
 -- a fibre has at most 86 runs
-pub runs_most : (rs : List Run) → spaced rs ≡ true → All OnFibre rs → length rs ≤ 86
+pub runs_most : (rs : List Run) → spaced rs ≡ true → AllByRecursion OnFibre rs → length rs ≤ 86
 runs_most rs e h =
     let m = taken_most rs e h in
     let l = taken_least rs e in omega arith
@@ -138,7 +138,7 @@ spaced_more row n d r pos le e f =
     ∙ and_true (apart (slice_index_or row (n - 1) d) r) (placed r) f
 
 -- ---- runs of a fibre
-pub on_fibre_all : (rs : List Run) → on_fibre rs ≡ true → All OnFibre rs
+pub on_fibre_all : (rs : List Run) → on_fibre rs ≡ true → AllByRecursion OnFibre rs
 on_fibre_all [] e = tt
 on_fibre_all (r ∷ rs) e =
     let h = and_parts (nat_lt r.address 256) (on_fibre rs) e in

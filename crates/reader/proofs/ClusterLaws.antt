@@ -5,7 +5,7 @@ use mathlib.Core.List.{head-eq_of_cons-eq, tail-eq_of_cons-eq, nil≢cons}
 use Rattle.std.proofs.lemmas.Bool.{le-leb, and_parts, and_from}
 use Rattle.std.proofs.lemmas.List.{length-take-le, take_at, drop_at}
 use Rattle.std.proofs.ByRecursion.{All-take, All-drop}
-use Rattle.std.specs.List.{flat_map, AllByRecursion as All}
+use Rattle.std.specs.List.{flat_map, AllByRecursion}
 use Rattle.layout.specs.declared.run.Run.{Run}
 use Rattle.layout.specs.Places.{placed, apart, spaced}
 use Rattle.layout.specs.Event.{Byte, Cluster, run_of, ClusterBytes, cluster_bytes}
@@ -61,17 +61,17 @@ cluster_split b xs c r =
     ∙ sym r.bytes
 
 -- an address and values that were read from bytes are bytes
-pub cluster_is_bytes : (b : Option Run) (xs : List ℕ) (c : Cluster) → ClusterAt b xs c → All Byte xs → ClusterBytes c
+pub cluster_is_bytes : (b : Option Run) (xs : List ℕ) (c : Cluster) → ClusterAt b xs c → AllByRecursion Byte xs → ClusterBytes c
 cluster_is_bytes b xs c r h =
-    let g : All Byte (c.address ∷ r.strips ∷ r.rest) = subst (λ (ys : List ℕ). All Byte ys) r.bytes h in
-    (g.0, subst (λ (ys : List ℕ). All Byte ys) (sym r.values) (All-take Byte r.strips r.rest g.1.1))
+    let g : AllByRecursion Byte (c.address ∷ r.strips ∷ r.rest) = subst (λ (ys : List ℕ). AllByRecursion Byte ys) r.bytes h in
+    (g.0, subst (λ (ys : List ℕ). AllByRecursion Byte ys) (sym r.values) (All-take Byte r.strips r.rest g.1.1))
 
 -- clusters that were read are in their places, and their bytes are those that were read
 pub clusters_sound :
     (b : Option Run) (at : ℕ) (xs : List ℕ) (cs : List Cluster) →
-    All Byte xs →
+    AllByRecursion Byte xs →
     read_clusters 0 b at xs ≡ Ok cs →
-    (flat_map cluster_bytes cs ≡ xs) × Chained b cs × All ClusterBytes cs
+    (flat_map cluster_bytes cs ≡ xs) × Chained b cs × AllByRecursion ClusterBytes cs
 clusters_sound b at [] [] bytes h = (refl, tt, tt)
 clusters_sound b at [] (c ∷ cs) bytes h = absurd (nil≢cons (ok_same [] (c ∷ cs) h))
 clusters_sound b at (x ∷ xs) [] bytes h =

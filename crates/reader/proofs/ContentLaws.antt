@@ -2,7 +2,7 @@
 -- Assumes nothing.
 use Rattle.std.proofs.Common.{◌≡◌, ℕ, ◌+◌, ◌*◌, ◌/◌, ◌%◌, ◌≤◌, leb, List, [], ◌∷◌, ◌++◌, length, None, Ok, Result, ap, ◌∙◌, subst, ap₂, arith}
 use Rattle.std.proofs.lemmas.Bool.{leb-true, le-leb}
-use Rattle.std.specs.List.{flat_map, AllByRecursion as All}
+use Rattle.std.specs.List.{flat_map, AllByRecursion}
 use Rattle.terms.specs.declared.pair.Pair.{Pair}
 use Rattle.layout.specs.declared.kind.Kind.{Kind}
 use Rattle.layout.specs.declared.kind.Kind.TheVariants.{ZeroSuppressed, ProcessedRaw, VirginRaw}
@@ -19,7 +19,7 @@ abbrev Written : Kind → List ℕ → Content → Type 0
 Written k xs c = ContentOk k c × (content_bytes c ≡ xs)
 
 suppressed_sound :
-    (at : ℕ) (xs : List ℕ) (c : Content) → 4 ≤ length xs → All Byte xs → read_suppressed at xs ≡ Ok c → Written ZeroSuppressed xs c
+    (at : ℕ) (xs : List ℕ) (c : Content) → 4 ≤ length xs → AllByRecursion Byte xs → read_suppressed at xs ≡ Ok c → Written ZeroSuppressed xs c
 suppressed_sound at [] c room bytes h = absurd (omega arith)
 suppressed_sound at (x ∷ []) c room bytes h = absurd (omega arith)
 suppressed_sound at (x ∷ y ∷ []) c room bytes h = absurd (omega arith)
@@ -45,9 +45,9 @@ suppressed_sound at (x ∷ y ∷ z ∷ t ∷ xs) c room bytes h =
 raw_sound :
     (at : ℕ) (xs : List ℕ) (c : Content) →
     length xs ≡ 512 →
-    All Byte xs →
+    AllByRecursion Byte xs →
     ok_map words (read_words at xs) ≡ Ok c →
-    (ws : List ℕ) × (words ws ≡ c) × (length ws ≡ 256) × All TenBits ws × (flat_map word ws ≡ xs)
+    (ws : List ℕ) × (words ws ≡ c) × (length ws ≡ 256) × AllByRecursion TenBits ws × (flat_map word ws ≡ xs)
 raw_sound at xs c size bytes h =
     let one = ok_map_ok words (read_words at xs) c h in
     let even : length xs % 2 ≡ 0 = omega arith in
@@ -59,7 +59,7 @@ pub content_sound :
     (k : Kind) (at : ℕ) (xs : List ℕ) (c : Content) →
     shortest k ≤ 3 + length xs →
     3 + length xs ≤ longest k →
-    All Byte xs →
+    AllByRecursion Byte xs →
     read_content k at xs ≡ Ok c →
     ContentOk k c × (content_bytes c ≡ xs)
 content_sound ZeroSuppressed at xs c least most bytes h = suppressed_sound at xs c (omega arith) bytes h
@@ -89,7 +89,7 @@ suppressed_complete at m cs h =
     (clusters_complete None (at + 4) cs (chained_from_spaced cs h.2))
     ∙ ap (λ (p : Pair ℕ). Ok (suppressed p cs)) same))
 
-raw_complete : (at : ℕ) (ws : List ℕ) → All TenBits ws → ok_map words (read_words at (flat_map word ws)) ≡ Ok (words ws)
+raw_complete : (at : ℕ) (ws : List ℕ) → AllByRecursion TenBits ws → ok_map words (read_words at (flat_map word ws)) ≡ Ok (words ws)
 raw_complete at ws h = ap (ok_map words) (words_complete at ws h)
 
 -- what is written is read back

@@ -4,7 +4,7 @@ use Rattle.std.proofs.Common.{◌≡◌, ℕ, ◌+◌, ◌-◌, eqb, List, [], �
 use Rattle.std.proofs.lemmas.Bool.{eqb-true, eq-eqb}
 use Rattle.std.proofs.lemmas.List.{take_at, nil_from_length}
 use Rattle.std.proofs.ByRecursion.{All-drop}
-use Rattle.std.specs.List.{flat_map, AllByRecursion as All}
+use Rattle.std.specs.List.{flat_map, AllByRecursion}
 use Rattle.layout.specs.declared.kind.Kind.{Kind}
 use Rattle.layout.specs.Event.{Byte, Content, ContentOk, Event, EventOk, record_bytes, bytes_of}
 use Rattle.faults.specs.declared.fault.EventFault.{EventFault}
@@ -23,12 +23,12 @@ pub record EventAt (xs : List ℕ) (e : Event) (n : ℕ) : Type 0 where
   pub size : n ≡ length (bytes_of e)
 
 -- the twelve records of an event that was read are of the kind of fibre 0's
-all_twelve : (xs : List ℕ) (w : Walked) → All Byte xs → read_records 12 None 0 xs ≡ Ok w → EventAt xs (event_from xs w) w.end
+all_twelve : (xs : List ℕ) (w : Walked) → AllByRecursion Byte xs → read_records 12 None 0 xs ≡ Ok w → EventAt xs (event_from xs w) w.end
 all_twelve xs w bytes h =
     let r = records_at 11 None 0 xs w h in
     let k : Kind = r.head.kind in
     let size : ℕ = number_in r.low r.high in
-    let here : All Byte (r.low ∷ r.high ∷ r.code ∷ r.rest) = subst (λ (ys : List ℕ). All Byte ys) r.bytes bytes in
+    let here : AllByRecursion Byte (r.low ∷ r.high ∷ r.code ∷ r.rest) = subst (λ (ys : List ℕ). AllByRecursion Byte ys) r.bytes bytes in
     let others =
     records_sound k 11 (0 + size) (drop (size - 3) r.rest) r.others (All-drop Byte (size - 3) r.rest here.1.1.1)
     (ap
@@ -49,7 +49,7 @@ all_twelve xs w bytes h =
     })
 
 -- an event that was read at the front of an input
-pub first_sound : (xs : List ℕ) (e : Event) (n : ℕ) → All Byte xs → read_first xs ≡ Ok (e, n) → EventAt xs e n
+pub first_sound : (xs : List ℕ) (e : Event) (n : ℕ) → AllByRecursion Byte xs → read_first xs ≡ Ok (e, n) → EventAt xs e n
 first_sound xs e n bytes h =
     let one = ok_map_ok (λ (w : Walked). (event_from xs w, w.end)) (read_records 12 None 0 xs) (e, n) h in
     subst (λ (p : Event × ℕ). EventAt xs p.0 p.1) one.2 (all_twelve xs one.0 bytes one.1)
@@ -57,7 +57,7 @@ first_sound xs e n bytes h =
 event_complete :
     (k : Kind) (cs : List Content) (rest : List ℕ) →
     length cs ≡ 12 →
-    All (ContentOk k) cs →
+    AllByRecursion (ContentOk k) cs →
     read_first (flat_map (record_bytes k) cs ++ rest)
     ≡ Ok (record { kind = k; contents = cs }, length (flat_map (record_bytes k) cs))
 event_complete k [] rest twelve ok = absurd (omega arith)

@@ -3,7 +3,7 @@
 use Rattle.std.proofs.Common.{◌≡◌, ℕ, ◌+◌, ◌≤◌, eqb, List, [], ◌++◌, length, get_or, take, drop, Some, None, Ok, Err, Result, sym, refl, ap, ◌∙◌, ap₂, arith, length-append, take-append-drop}
 use Rattle.std.proofs.lemmas.List.{append-nil, take_at, drop_at, length-take-le, nil_from_length}
 use Rattle.std.proofs.lemmas.Bool.{eq-eqb, ne_eqb}
-use Rattle.std.specs.List.{AllByRecursion as All}
+use Rattle.std.specs.List.{AllByRecursion}
 use Rattle.layout.specs.Event.{Byte, Event, EventOk, bytes_of}
 use Rattle.faults.specs.declared.fault.EventFault.{EventFault}
 use Rattle.faults.specs.declared.fault.EventFault.TheVariants as events
@@ -25,7 +25,7 @@ pub record Front (bs : List ℕ) (n : ℕ) : Type 0 where
   pub long : 3 ≤ length bs
   pub kind : kind_of (get_or bs 2 0) ≡ Some value.kind
 
-pub front_found : (bs : List ℕ) (n : ℕ) → All Byte bs → Ok n ≡ ok_map ends_at (read_records 12 None 0 bs) → Front bs n
+pub front_found : (bs : List ℕ) (n : ℕ) → AllByRecursion Byte bs → Ok n ≡ ok_map ends_at (read_records 12 None 0 bs) → Front bs n
 front_found bs n bytes h =
     let walked = ok_map_ok ends_at (read_records 12 None 0 bs) n (sym h) in
     let w : Walked = walked.0 in

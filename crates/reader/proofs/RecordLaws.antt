@@ -4,7 +4,7 @@ use Rattle.std.proofs.Common.{◌≡◌, ℕ, zero, suc, ◌+◌, ◌-◌, ◌/�
 use Rattle.std.proofs.lemmas.Bool.{eqb-true, eq-eqb, le-leb, and_from}
 use Rattle.std.proofs.lemmas.List.{length-take-le, take_at, drop_at}
 use Rattle.std.proofs.ByRecursion.{All-take, All-drop}
-use Rattle.std.specs.List.{flat_map, AllByRecursion as All}
+use Rattle.std.specs.List.{flat_map, AllByRecursion}
 use Rattle.layout.specs.declared.kind.Kind.{Kind}
 use Rattle.layout.specs.declared.kind.Kind.TheVariants.{ZeroSuppressed, ProcessedRaw, VirginRaw}
 use Rattle.layout.specs.Event.{Byte, Content, ContentOk, code, shortest, longest, word, content_bytes, record_bytes}
@@ -54,7 +54,7 @@ pub record RecordOk (k : Kind) (n : ℕ) (bytes rest : List ℕ) (c : Content) :
 -- a record that was read
 pub record_sound :
     (first : Option ℕ) (at lo hi x : ℕ) (xs : List ℕ) (c : Content) (r : RecordAt first at (number_in lo hi) x xs c) →
-    All Byte (lo ∷ hi ∷ x ∷ xs) →
+    AllByRecursion Byte (lo ∷ hi ∷ x ∷ xs) →
     RecordOk r.kind (number_in lo hi) (lo ∷ hi ∷ x ∷ xs) xs c
 record_sound first at lo hi x xs c r bytes =
     let k : Kind = r.kind in
@@ -82,7 +82,7 @@ record_sound first at lo hi x xs c r bytes =
 -- n records of one kind, and what lies behind them
 pub record RecordsOk (k : Kind) (n at : ℕ) (xs : List ℕ) (w : Walked) : Type 0 where
   pub count : length w.contents ≡ n
-  pub content : All (ContentOk k) w.contents
+  pub content : AllByRecursion (ContentOk k) w.contents
   pub rest : List ℕ
   pub split : flat_map (record_bytes k) w.contents ++ rest ≡ xs
   pub end : at + length (flat_map (record_bytes k) w.contents) ≡ w.end
@@ -91,7 +91,7 @@ pub record RecordsOk (k : Kind) (n at : ℕ) (xs : List ℕ) (w : Walked) : Type
 pub one_more :
     (k : Kind) (n : ℕ) (first : Option ℕ) (at : ℕ) (xs : List ℕ) (w : Walked) (r : RecordsAt n first at xs w) →
     r.head.kind ≡ k →
-    All Byte xs →
+    AllByRecursion Byte xs →
     RecordsOk k n (at + number_in r.low r.high) (drop (number_in r.low r.high - 3) r.rest) r.others →
     RecordsOk k (suc n) at xs w
 one_more k n first at xs w r kind bytes below =
@@ -102,7 +102,7 @@ one_more k n first at xs w r kind bytes below =
     (λ (k : Kind). RecordOk k size here r.rest r.content)
     kind
     (record_sound first at r.low r.high r.code r.rest r.content r.head
-    (subst (λ (ys : List ℕ). All Byte ys) r.bytes bytes)) in
+    (subst (λ (ys : List ℕ). AllByRecursion Byte ys) r.bytes bytes)) in
     let front : List ℕ = record_bytes k r.content in
     let others : List ℕ = flat_map (record_bytes k) r.others.contents in
     let long : length (front ++ others) ≡ length front + length others = length-append front others in
@@ -130,7 +130,7 @@ one_more k n first at xs w r kind bytes below =
 -- behind a first record of a kind, all are of that kind
 pub records_sound :
     (k : Kind) (n at : ℕ) (xs : List ℕ) (w : Walked) →
-    All Byte xs →
+    AllByRecursion Byte xs →
     read_records n (Some (code k)) at xs ≡ Ok w →
     RecordsOk k n at xs w
 records_sound k zero at xs w bytes h =
@@ -143,7 +143,7 @@ records_sound k (suc n) at xs w bytes h =
     let size : ℕ = number_in r.low r.high in
     let same : r.code ≡ code k = sym (eqb-true (code k) r.code r.head.same) in
     let kind : r.head.kind ≡ k = some_same r.head.kind k (sym r.head.known ∙ ap kind_of same ∙ known_code k) in
-    let behind : All Byte (r.low ∷ r.high ∷ r.code ∷ r.rest) = subst (λ (ys : List ℕ). All Byte ys) r.bytes bytes in
+    let behind : AllByRecursion Byte (r.low ∷ r.high ∷ r.code ∷ r.rest) = subst (λ (ys : List ℕ). AllByRecursion Byte ys) r.bytes bytes in
     one_more k n (Some (code k)) at xs w r kind bytes
     (records_sound k n (at + size) (drop (size - 3) r.rest) r.others (All-drop Byte (size - 3) r.rest behind.1.1.1)
     (ap (λ (x : ℕ). read_records n (Some x) (at + size) (drop (size - 3) r.rest)) (sym same) ∙ r.tail))
@@ -190,7 +190,7 @@ next_record n first at lo hi x xs c h =
 -- records of one kind are read back, whatever follows
 pub records_complete :
     (k : Kind) (cs : List Content) (first : Option ℕ) (at : ℕ) (rest : List ℕ) →
-    All (ContentOk k) cs →
+    AllByRecursion (ContentOk k) cs →
     same_code first (code k) ≡ true →
     read_records (length cs) first at (flat_map (record_bytes k) cs ++ rest)
     ≡ Ok (record { contents = cs; end = at + length (flat_map (record_bytes k) cs) })

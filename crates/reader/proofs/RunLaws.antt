@@ -3,7 +3,7 @@
 use Rattle.std.proofs.Common.{◌≡◌, ℕ, zero, suc, ◌+◌, ◌-◌, ◌<◌, ◌≤◌, List, [], ◌∷◌, ◌++◌, length, take, drop, Some, None, Ok, Err, Option, Result, sym, refl, ap, ◌∙◌, subst, append_assoc, append-nil, add-zero, zero-add, arith, length-append, length-drop}
 use Rattle.std.proofs.lemmas.List.{take_at, drop_at}
 use Rattle.std.proofs.ByRecursion.{All-drop}
-use Rattle.std.specs.List.{flat_map, AllByRecursion as All}
+use Rattle.std.specs.List.{flat_map, AllByRecursion}
 use Rattle.layout.specs.Event.{Byte, Event, EventOk, bytes_of}
 use Rattle.faults.specs.declared.fault.EventFault.{EventFault}
 use Rattle.reader.specs.Questions.{read_first, Survey, with_event, survey}
@@ -18,7 +18,7 @@ Ended rest (Some f) = read_first rest ≡ Err f
 
 -- what a walk from offset `at` on found
 pub record Found (at : ℕ) (xs : List ℕ) (s : Survey) : Type 0 where
-  pub sound : All EventOk s.events
+  pub sound : AllByRecursion EventOk s.events
   pub rest : List ℕ
   pub split : flat_map bytes_of s.events ++ rest ≡ xs
   pub end : at + length (flat_map bytes_of s.events) ≡ s.end
@@ -26,7 +26,7 @@ pub record Found (at : ℕ) (xs : List ℕ) (s : Survey) : Type 0 where
 
 one_event_more :
     (at : ℕ) (xs : List ℕ) (e : Event) (n : ℕ) →
-    All Byte xs →
+    AllByRecursion Byte xs →
     read_first xs ≡ Ok (e, n) →
     Found (at + n) (drop n xs) (survey 0 (at + n) (drop n xs)) →
     Found at xs (survey 0 at xs)
@@ -57,7 +57,7 @@ one_event_more at xs e n bytes read below =
     shift at n front tail both end a b c = omega arith
 
 -- by the number of bytes that are left
-walk_sound : (room at : ℕ) (xs : List ℕ) → length xs ≤ room → All Byte xs → Found at xs (survey 0 at xs)
+walk_sound : (room at : ℕ) (xs : List ℕ) → length xs ≤ room → AllByRecursion Byte xs → Found at xs (survey 0 at xs)
 walk_sound room at [] fits bytes = record { sound = tt; rest = []; split = refl; end = add-zero at; ended = refl }
 walk_sound zero at (x ∷ xs) fits bytes = absurd (omega arith)
 walk_sound (suc room) at (x ∷ xs) fits bytes = go (read_first (x ∷ xs)) refl (λ n more. walk_sound room (at + n) (drop n (x ∷ xs)) more (All-drop Byte n (x ∷ xs) bytes))
@@ -79,13 +79,13 @@ walk_sound (suc room) at (x ∷ xs) fits bytes = go (read_first (x ∷ xs)) refl
         (record { sound = tt; rest = x ∷ xs; split = refl; end = add-zero at; ended = e })
 
 -- what the walk over any input finds
-pub run_sound : (at : ℕ) (xs : List ℕ) → All Byte xs → Found at xs (survey 0 at xs)
+pub run_sound : (at : ℕ) (xs : List ℕ) → AllByRecursion Byte xs → Found at xs (survey 0 at xs)
 run_sound at xs bytes = walk_sound (length xs) at xs (omega arith) bytes
 
 -- events one after the other are all found
 pub run_complete :
     (at : ℕ) (es : List Event) →
-    All EventOk es →
+    AllByRecursion EventOk es →
     survey 0 at (flat_map bytes_of es) ≡ record { events = es; end = at + length (flat_map bytes_of es); fault = None }
 run_complete at [] ok = ap (λ (i : ℕ). record { events = []; end = i; fault = None }) (sym (add-zero at))
 run_complete at (e ∷ es) ok =
@@ -104,7 +104,7 @@ exactly_the_run bs es bytes = (
       let found = run_sound 0 bs bytes in
       let none : found.rest ≡ [] = subst (Ended found.rest) h.0 found.ended in
       subst
-      (λ (es : List Event). All EventOk es × (flat_map bytes_of es ≡ bs))
+      (λ (es : List Event). AllByRecursion EventOk es × (flat_map bytes_of es ≡ bs))
       h.1 (
         found.sound,
         sym (append-nil _) ∙ ap (λ (ys : List ℕ). flat_map bytes_of (survey 0 0 bs).events ++ ys) (sym none) ∙ found.split,

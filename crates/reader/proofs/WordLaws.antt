@@ -2,7 +2,7 @@
 -- Assumes nothing.
 use Rattle.std.proofs.Common.{◌≡◌, ℕ, suc, ◌+◌, ◌*◌, ◌/◌, ◌%◌, ◌<◌, ◌≤◌, leb, List, [], ◌∷◌, ◌++◌, length, Ok, refl, ap, ◌∙◌, subst, ap₂, arith}
 use Rattle.std.proofs.lemmas.Bool.{leb-true, le-leb}
-use Rattle.std.specs.List.{flat_map, AllByRecursion as All}
+use Rattle.std.specs.List.{flat_map, AllByRecursion}
 use Rattle.layout.specs.Event.{Byte, TenBits, word}
 use Rattle.faults.specs.declared.fault.RecordFault.TheVariants as records
 use Rattle.reader.specs.Questions.{ok_map, number_in, read_words}
@@ -22,12 +22,12 @@ number_of_word w = omega arith
 pub words_sound :
     (at : ℕ) (xs ws : List ℕ) →
     length xs % 2 ≡ 0 →
-    All Byte xs →
+    AllByRecursion Byte xs →
     read_words at xs ≡ Ok ws →
-    (flat_map word ws ≡ xs) × (2 * length ws ≡ length xs) × All TenBits ws
+    (flat_map word ws ≡ xs) × (2 * length ws ≡ length xs) × AllByRecursion TenBits ws
 words_sound at [] ws even bytes h =
     subst
-    (λ (ws : List ℕ). (flat_map word ws ≡ []) × (2 * length ws ≡ 0) × All TenBits ws)
+    (λ (ws : List ℕ). (flat_map word ws ≡ []) × (2 * length ws ≡ 0) × AllByRecursion TenBits ws)
     (ok_same [] ws h)
     (refl, omega arith, tt)
 words_sound at (x ∷ []) ws even bytes h = absurd (omega arith)
@@ -38,7 +38,7 @@ words_sound at (lo ∷ hi ∷ xs) ws even bytes h =
     let below = words_sound (at + 2) xs two.0 even-below bytes.1.1 two.1 in
     let count : 2 * suc (length two.0) ≡ suc (suc (length xs)) = omega (arith, below.1) in
     subst
-    (λ (ws : List ℕ). (flat_map word ws ≡ lo ∷ hi ∷ xs) × (2 * length ws ≡ length (lo ∷ hi ∷ xs)) × All TenBits ws)
+    (λ (ws : List ℕ). (flat_map word ws ≡ lo ∷ hi ∷ xs) × (2 * length ws ≡ length (lo ∷ hi ∷ xs)) × AllByRecursion TenBits ws)
     two.2 (
       ap₂ (λ (a b : List ℕ). a ++ b) (word_of_number lo hi bytes.0) below.0,
       count,
@@ -46,7 +46,7 @@ words_sound at (lo ∷ hi ∷ xs) ws even bytes h =
     )
 
 -- ten-bit words are read back
-pub words_complete : (at : ℕ) (ws : List ℕ) → All TenBits ws → read_words at (flat_map word ws) ≡ Ok ws
+pub words_complete : (at : ℕ) (ws : List ℕ) → AllByRecursion TenBits ws → read_words at (flat_map word ws) ≡ Ok ws
 words_complete at [] h = refl
 words_complete at (w ∷ ws) h =
     let n : ℕ = number_in (w % 256) (w / 256) in

@@ -1,7 +1,7 @@
 -- What a tally tells: its counts add up to the numbers of values below each bin, and two tallies find a position.
 -- Assumes nothing.
 use Rattle.std.proofs.Common.{◌≡◌, ℕ, zero, suc, ◌+◌, ◌-◌, ◌*◌, ◌/◌, ◌%◌, ◌<◌, ◌≤◌, Bool, true, false, cond, ◌&&◌, eqb, ltb, List, [], ◌∷◌, ◌++◌, map, length, get_or, take, set, replicate, Some, None, sum, count_by, filter, sym, refl, ap, ◌∙◌, subst, inl, inr, append-nil, add-one, arith}
-use Rattle.std.specs.List.{AllByRecursion as All}
+use Rattle.std.specs.List.{AllByRecursion}
 use Rattle.std.proofs.lemmas.List.Elements.{filter_more}
 use Rattle.std.proofs.ByRecursion.{All-get_or, All-map, All-weaker}
 use Rattle.std.proofs.lemmas.List.{length-set, get_or-set_same, get_or-set_other, get_or-replicate, length-map, length-take-le, map_more, map-append}
@@ -46,7 +46,7 @@ tallies_below counts ks (suc b) h t =
     omega (arith, sum_by_more (λ n. n) counts b 0 (omega (arith, t.long)), below_more b ks, rest, t.each b (omega arith)) in
     subst (λ n. sum (take n counts) ≡ below n ks) (add-one b) more
 
-tallies_all : (counts ks : List ℕ) → Tallies counts ks → All (λ k. k < 32) ks → sum (take 32 counts) ≡ length ks
+tallies_all : (counts ks : List ℕ) → Tallies counts ks → AllByRecursion (λ k. k < 32) ks → sum (take 32 counts) ≡ length ks
 tallies_all counts ks t all = tallies_below counts ks 32 (omega arith) t ∙ below_all 32 ks all
 
 -- the bin where the counts come to p has the position p among the bins taken
@@ -75,14 +75,14 @@ below_split b l h vs =
     rw (count_map (λ k. ltb k b) (λ v. v / 32) vs, count_map (λ k. ltb k l) (λ v. v % 32) (filter (λ v. eqb (v / 32) b) vs), count_kept (λ v. ltb (v % 32) l) (λ v. eqb (v / 32) b) vs)
     (count_split (λ v. ltb v (32 * b + l)) (λ v. ltb (v / 32) b) (λ v. eqb (v / 32) b && ltb (v % 32) l) (λ v. grind (arith, nat_tests)) vs)
 
-tops_bins : (vs : List ℕ) → All (λ v. v ≤ 1023) vs → All (λ k. k < 32) (tops vs)
+tops_bins : (vs : List ℕ) → AllByRecursion (λ v. v ≤ 1023) vs → AllByRecursion (λ k. k < 32) (tops vs)
 tops_bins vs h = All-map (λ k. k < 32) (λ v. v / 32) vs (All-weaker (λ v. v ≤ 1023) (λ v. v / 32 < 32) (λ v l. omega arith) vs h)
 
-all_known : (P : ℕ → Type 0) → ((v : ℕ) → P v) → (vs : List ℕ) → All P vs
+all_known : (P : ℕ → Type 0) → ((v : ℕ) → P v) → (vs : List ℕ) → AllByRecursion P vs
 all_known P h [] = tt
 all_known P h (v ∷ vs) = (h v, all_known P h vs)
 
-bottoms_bins : (b : ℕ) (vs : List ℕ) → All (λ k. k < 32) (bottoms b vs)
+bottoms_bins : (b : ℕ) (vs : List ℕ) → AllByRecursion (λ k. k < 32) (bottoms b vs)
 bottoms_bins b vs = All-map (λ k. k < 32) (λ v. v % 32) (filter (λ v. eqb (v / 32) b) vs) (all_known (λ v. v % 32 < 32) (λ v. omega arith) (filter (λ v. eqb (v / 32) b) vs))
 
 -- the values of a bin
@@ -136,7 +136,7 @@ tops_room counts vs i k within few small t =
     tallies_room counts (tops (take i vs)) k small t (omega (arith, length-map (take i vs) (λ v. v / 32), length-take-le i vs (omega arith)))
 
 -- what the first tally asks of one more value
-pub top_taken : (counts vs : List ℕ) (i k : ℕ) → i < length vs → length vs ≤ 128 → All (λ v. v ≤ 1023) vs → k ≡ get_or vs i 0 / 32 → Tallies counts (tops (take i vs)) → (k < 32) × (get_or counts k 0 < 128)
+pub top_taken : (counts vs : List ℕ) (i k : ℕ) → i < length vs → length vs ≤ 128 → AllByRecursion (λ v. v ≤ 1023) vs → k ≡ get_or vs i 0 / 32 → Tallies counts (tops (take i vs)) → (k < 32) × (get_or counts k 0 < 128)
 top_taken counts vs i k within few all e t =
     let small : k < 32 = omega (arith, e, All-get_or (λ v. v ≤ 1023) vs i 0 within all) in
     (small, tops_room counts vs i k within few small t)
@@ -166,7 +166,7 @@ bottoms_same counts vs i b within e t =
     rw (bottoms_no b vs i (get_or vs i 0) within refl (eqb-false (get_or vs i 0 / 32) b (no_bits (eqb (get_or vs i 0 / 32) b) (get_or vs i 0 % 32) e))) t
 
 -- what each tally's search asks
-pub top_enough : (counts vs : List ℕ) (p : ℕ) → p ≤ length vs → All (λ v. v ≤ 1023) vs → Tallies counts (tops vs) → p ≤ sum (take 32 counts)
+pub top_enough : (counts vs : List ℕ) (p : ℕ) → p ≤ length vs → AllByRecursion (λ v. v ≤ 1023) vs → Tallies counts (tops vs) → p ≤ sum (take 32 counts)
 top_enough counts vs p within all t = omega (arith, tallies_all counts (tops vs) t (tops_bins vs all), length-map vs (λ v. v / 32))
 
 pub bottom_enough : (counts vs : List ℕ) (p b n : ℕ) → HasPosition p b (tops vs) → n ≡ below b (tops vs) → Tallies counts (bottoms b vs) → (0 < p - n) × (p - n ≤ sum (take 32 counts))

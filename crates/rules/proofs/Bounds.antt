@@ -1,15 +1,15 @@
 -- The highest of the values so far, as the least number that none of them exceeds.
 -- Assumes nothing.
 use Rattle.std.proofs.Common.{◌≡◌, ℕ, ◌+◌, ◌<◌, ◌≤◌, max, List, [], ◌∷◌, ◌++◌, length, get_or, take, arith}
-use Rattle.std.specs.List.{AllByRecursion as All}
+use Rattle.std.specs.List.{AllByRecursion}
 use Rattle.std.proofs.lemmas.List.{take_more}
 use Rattle.std.proofs.ByRecursion.{All-push}
 
 -- the numbers from h on are those that no value exceeds
 abbrev pub Highest : ℕ → List ℕ → Type 0
-Highest h vs = (top : ℕ) → (h ≤ top → All (λ v. v ≤ top) vs) × (All (λ v. v ≤ top) vs → h ≤ top)
+Highest h vs = (top : ℕ) → (h ≤ top → AllByRecursion (λ v. v ≤ top) vs) × (AllByRecursion (λ v. v ≤ top) vs → h ≤ top)
 
-pub all_pushed : (P : ℕ → Type 0) (vs : List ℕ) (v : ℕ) → All P (vs ++ v ∷ []) → All P vs × P v
+pub all_pushed : (P : ℕ → Type 0) (vs : List ℕ) (v : ℕ) → AllByRecursion P (vs ++ v ∷ []) → AllByRecursion P vs × P v
 all_pushed P [] v h = (tt, h.0)
 all_pushed P (x ∷ vs) v h = let t = all_pushed P vs v h.1 in ((h.0, t.0), t.1)
 

@@ -3,7 +3,7 @@
 use Rattle.std.specs.Prelude.{◌≡◌, ℕ, suc, ◌+◌, ◌<◌, ◌≤◌, Bool, true, false, cond, ltb, leb, List, [], ◌∷◌, length, count_by, nat_eq, nat_le, nat_lt, refl}
 use Rattle.std.proofs.Common.{ap, arith}
 use Rattle.std.proofs.Math.Path.{fun_ext}
-use Rattle.std.specs.List.{ContainsAt as Has, AllByRecursion as All}
+use Rattle.std.specs.List.{ContainsAt, AllByRecursion}
 use Rattle.std.proofs.lemmas.List.Sums.{sum_by-cons}
 use Rattle.std.proofs.lemmas.Bool.{lt-ltb, leb-true, both_ways}
 use Rattle.std.proofs.lemmas.Bool.Decides.{nat_tests}
@@ -55,21 +55,21 @@ below_zero (v ∷ vs) =
     rw (count_cons (λ u. ltb u 0) v vs) (omega (arith, here, below_zero vs))
 
 -- all values lie below a number that is above each of them
-pub below_all : (x : ℕ) (vs : List ℕ) → All (λ v. v < x) vs → below x vs ≡ length vs
+pub below_all : (x : ℕ) (vs : List ℕ) → AllByRecursion (λ v. v < x) vs → below x vs ≡ length vs
 below_all x [] h = refl
 below_all x (v ∷ vs) h =
     let rest = below_all x vs h.1 in
     let here : mark (nat_lt v x) ≡ 1 = ap mark (lt-ltb v x h.0) in
     rw (count_cons (λ u. ltb u x) v vs) (omega (arith, here, rest))
 
-later : (vs : List ℕ) (v w : ℕ) → Has vs w → Has (v ∷ vs) w
+later : (vs : List ℕ) (v w : ℕ) → ContainsAt vs w → ContainsAt (v ∷ vs) w
 later vs v w has = (suc has.0, omega (arith, has.1), λ d. has.2 d)
 
 -- a test that is passed is passed by some value
-pub count_has : (p : ℕ → Bool) (vs : List ℕ) → 0 < count_by p vs → (v : ℕ) × (p v ≡ true) × Has vs v
+pub count_has : (p : ℕ → Bool) (vs : List ℕ) → 0 < count_by p vs → (v : ℕ) × (p v ≡ true) × ContainsAt vs v
 count_has p [] h = absurd (omega arith)
 count_has p (v ∷ vs) h = at (p v) refl (rw (count_cons p v vs) at h) (count_has p vs)
   where
-    at : (b : Bool) → p v ≡ b → 0 < mark b + count_by p vs → (0 < count_by p vs → (w : ℕ) × (p w ≡ true) × Has vs w) → (w : ℕ) × (p w ≡ true) × Has (v ∷ vs) w
+    at : (b : Bool) → p v ≡ b → 0 < mark b + count_by p vs → (0 < count_by p vs → (w : ℕ) × (p w ≡ true) × ContainsAt vs w) → (w : ℕ) × (p w ≡ true) × ContainsAt (v ∷ vs) w
     at true e l rest = (v, e, (0, omega arith, λ d. refl))
     at false e l rest = let (w, t, has) = rest (omega arith) in (w, t, later vs v w has)

@@ -1,7 +1,7 @@
 -- What the common-mode rules mean: rank, mean and fixed, and the shift law.
 -- Assumes nothing.
 use Rattle.std.specs.Prelude.{◌≡◌, ℕ, ◌+◌, ◌/◌, ◌<◌, ◌≤◌, min, max, Bool, cond, ◌&&◌, ltb, leb, List, [], ◌∷◌, length, ℤ, pos, ◌+ℤ◌, sum, count_by, nat_le, nat_lt, slice_index}
-use Rattle.std.specs.List.{AllZip, ContainsAt as Has, AllByRecursion as All}
+use Rattle.std.specs.List.{AllZip, ContainsAt, AllByRecursion}
 
 -- a rule's meaning: a number for a chip, a rank setting and a list of values
 abbrev pub Meaning : Type 0
@@ -12,7 +12,7 @@ pub record InRange (chip : ℕ) (vs : List ℕ) : Type 0 where
   pub of_card : chip < 24
   pub some : 1 ≤ length vs
   pub of_chip : length vs ≤ 128
-  pub ten_bits : All (λ v. v ≤ 1023) vs
+  pub ten_bits : AllByRecursion (λ v. v ≤ 1023) vs
 
 -- how many values lie below x
 abbrev pub below : ℕ → List ℕ → ℕ
@@ -64,19 +64,19 @@ Shifted c vs ws = AllZip (λ v w. pos w ≡ pos v +ℤ c) vs ws
 abbrev pub ShiftLaw : Meaning → Type 0
 ShiftLaw meaning =
     (chip setting : ℕ) (vs ws : List ℕ) (c : ℤ) → chip < 24 → setting < 256 → 1 ≤ length vs → length vs ≤ 128
-    → All (λ v. v ≤ 1022) vs → All (λ w. w ≤ 1022) ws → Shifted c vs ws
+    → AllByRecursion (λ v. v ≤ 1022) vs → AllByRecursion (λ w. w ≤ 1022) ws → Shifted c vs ws
     → pos (meaning chip setting ws) ≡ pos (meaning chip setting vs) +ℤ c
 
 -- the rank rule in the subject's words: its answer has the position, no other number has it, and it is one of the values
 pub record RankLaws : Type 0 where
   pub answer_has_it : (chip setting : ℕ) (vs : List ℕ) → InRange chip vs → HasPosition (rank_position setting (length vs)) (rank chip setting vs) vs
   pub no_other : (chip setting x : ℕ) (vs : List ℕ) → InRange chip vs → HasPosition (rank_position setting (length vs)) x vs → x ≡ rank chip setting vs
-  pub one_of_them : (chip setting : ℕ) (vs : List ℕ) → InRange chip vs → Has vs (rank chip setting vs)
+  pub one_of_them : (chip setting : ℕ) (vs : List ℕ) → InRange chip vs → ContainsAt vs (rank chip setting vs)
 
 -- a rule's answer lies between the lowest and the highest value
 abbrev pub StaysBetween : Meaning → Type 0
 StaysBetween meaning =
-    (chip setting low high : ℕ) (vs : List ℕ) → InRange chip vs → All (λ v. low ≤ v) vs → All (λ v. v ≤ high) vs
+    (chip setting low high : ℕ) (vs : List ℕ) → InRange chip vs → AllByRecursion (λ v. low ≤ v) vs → AllByRecursion (λ v. v ≤ high) vs
     → (low ≤ meaning chip setting vs) × (meaning chip setting vs ≤ high)
 
 -- whatever the 24 numbers, the fixed rule lacks the shift law, and so does any rule that does not look at the values

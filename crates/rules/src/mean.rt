@@ -1,6 +1,6 @@
 // The mean of a chip's values.
 ghost use Rattle.std.specs.Prelude.{◌≡◌, ◌/◌, ◌≤◌, length, sum};
-ghost use Rattle.std.specs.List.{AllByRecursion as All};
+ghost use Rattle.std.specs.List.{AllByRecursion};
 ghost use Rattle.rules.specs.Rules.{mean};
 ghost use Rattle.std.proofs.Common.{rules};
 ghost use Rattle.rules.specs.Averages.{mean_bounded};
@@ -34,7 +34,7 @@ impl ShiftRule for Mean {
 // The sum of a chip's values.
 fn total(values: &[u16]) -> u32
     requires few { length values.now ≤ 128 }
-    requires ten_bits { All (λ v. v ≤ 1023) values.now }
+    requires ten_bits { AllByRecursion (λ v. v ≤ 1023) values.now }
     ensures value { result ≡ sum values.now }
     ensures quotient { result / length values.now ≤ 1023 }
 {

@@ -1,6 +1,6 @@
 // The value at a position of a chip's values in rising order, found by two tallies and no sorting.
 ghost use Rattle.std.specs.Prelude.{◌≡◌, ◌/◌, ◌%◌, ◌<◌, ◌≤◌, length, if◌then◌else◌, Some, None, nat_eq};
-ghost use Rattle.std.specs.List.{AllByRecursion as All};
+ghost use Rattle.std.specs.List.{AllByRecursion};
 ghost use Rattle.rules.specs.Bins.{Tallies, tops, bottoms};
 ghost use Rattle.rules.specs.Rules.{rank, rank_position, value_at};
 ghost use Rattle.std.proofs.Common.{rules};
@@ -47,7 +47,7 @@ fn value_at(position: usize, values: &[u16]) -> u16
     requires some { 0 < position }
     requires within { position ≤ length values.now }
     requires few { length values.now ≤ 128 }
-    requires ten_bits { All (λ v. v ≤ 1023) values.now }
+    requires ten_bits { AllByRecursion (λ v. v ≤ 1023) values.now }
     ensures { result ≡ value_at position values.now }
 {
     let top = tally_tops(values).find(position);
@@ -58,7 +58,7 @@ fn value_at(position: usize, values: &[u16]) -> u16
 // A tally of the values by their top bits.
 fn tally_tops(values: &[u16]) -> Tally
     requires few { length values.now ≤ 128 }
-    requires ten_bits { All (λ v. v ≤ 1023) values.now }
+    requires ten_bits { AllByRecursion (λ v. v ≤ 1023) values.now }
     ensures { Tallies result.counts (tops values.now) }
 {
     let mut tally = Tally::new();

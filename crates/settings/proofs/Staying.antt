@@ -4,7 +4,7 @@ use Rattle.std.proofs.Common.{◌≡◌, ℕ, ◌<◌, Bool, true, false, List, 
 use mathlib.Core.Path.{subst⁻¹}
 use Rattle.std.proofs.lemmas.List.{get_or-replicate, length-replicate}
 use Rattle.std.proofs.lemmas.Bool.{cases_eq}
-use Rattle.std.specs.List.{AllByRecursion as All}
+use Rattle.std.specs.List.{AllByRecursion}
 use Rattle.terms.specs.Terms.{part}
 use Rattle.terms.specs.declared.enable.Enable.{Enable}
 use Rattle.terms.specs.declared.fibre.Fibre.{Fibre}
@@ -230,7 +230,7 @@ stays (settings.Rank f s r) (settings.Rank g s' r') c away h held =
 
 -- over whole runs
 
-kept : (s : Setting) (later past : List Setting) → All (Elsewhere s) later → InForce s (settings_after past) → InForce s (settings_after (later ++ past))
+kept : (s : Setting) (later past : List Setting) → AllByRecursion (Elsewhere s) later → InForce s (settings_after past) → InForce s (settings_after (later ++ past))
 unfolding settings_after
 kept s [] past a h = h
 kept s (n ∷ later) past a h =

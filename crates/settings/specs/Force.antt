@@ -1,7 +1,7 @@
 -- How long a setting is in force, over whole runs of setting words.
 -- Assumes nothing.
 use Rattle.std.specs.Prelude.{◌≡◌, ℕ, ◌<◌, true, false, List, [], ◌∷◌, ◌++◌, slice_index, slice_index_or}
-use Rattle.std.specs.List.{AllByRecursion as All}
+use Rattle.std.specs.List.{AllByRecursion}
 use Rattle.terms.specs.Terms.{part, side_number}
 use Rattle.settings.specs.declared.setting.Setting.{Setting}
 use Rattle.settings.specs.declared.setting.Setting.TheVariants as settings
@@ -53,13 +53,13 @@ settings_after (setting ∷ earlier) = applied setting (settings_after earlier)
 -- a setting is in force from its word on, as long as no later one has its place
 abbrev pub StaysInForce : Type 0
 StaysInForce =
-    (earlier later : List Setting) (setting : Setting) → StripKnown setting → All (Elsewhere setting) later →
+    (earlier later : List Setting) (setting : Setting) → StripKnown setting → AllByRecursion (Elsewhere setting) later →
     InForce setting (settings_after (later ++ setting ∷ earlier))
 
 -- what a fresh card has is in force as long as no setting has its place
 abbrev pub FreshStays : Type 0
 FreshStays =
-    (later : List Setting) (setting : Setting) → All (Elsewhere setting) later → InForce setting fresh_card →
+    (later : List Setting) (setting : Setting) → AllByRecursion (Elsewhere setting) later → InForce setting fresh_card →
     InForce setting (settings_after later)
 
 -- the numbers of a fibre's settings are in range: T is 0 to 31, each pedestal 0 to 1023, each strip's thresholds are in order

@@ -1,7 +1,7 @@
 -- A list of calls of a store: what each answers, and the lists after it, by the lists alone.
 -- Assumes nothing.
 use Rattle.std.specs.Prelude.{◌≡◌, ℕ, Bool, cond, List, [], ◌∷◌, ◌++◌, length, take, drop, is_ok, Ok, Err, Result, ◌==◌, nat_le}
-use Rattle.std.specs.List.{AllByRecursion as All}
+use Rattle.std.specs.List.{AllByRecursion}
 use Rattle.terms.specs.declared.refusal.Refusal.{Refusal}
 use Rattle.terms.specs.declared.refusal.Refusal.TheVariants.{BufferTooShort, NoSuchFibre, StoreFull, StoreEmpty}
 use Rattle.terms.specs.Terms.{number}
@@ -97,7 +97,7 @@ Keeps Clear = ⊥
 -- is what was taken from it and what waits on it now, in that order; no byte is lost, invented or moved
 abbrev pub FirstInFirstOut : List (List ℕ) → List StoreCall → List StoreAnswer → List (List ℕ) → Type 0
 FirstInFirstOut before calls answers after =
-    All Keeps calls → (f : ℕ) → waiting before f ++ over_all (put_by f) calls answers ≡ over_all (taken_by f) calls answers ++ waiting after f
+    AllByRecursion Keeps calls → (f : ℕ) → waiting before f ++ over_all (put_by f) calls answers ≡ over_all (taken_by f) calls answers ++ waiting after f
 
 -- worked examples: a store of capacity 2 in which nothing waits answers these calls, and the capacities over some lent memory
 abbrev pub WorkedExamples : Type 0

@@ -1,7 +1,7 @@
 -- What a store means: twelve lists of waiting bytes, oldest first, and one capacity.
 -- Assumes nothing.
 use Rattle.std.specs.Prelude.{◌≡◌, ℕ, ◌+◌, ◌*◌, ◌/◌, ◌<◌, ◌≤◌, min, cond, List, [], ◌++◌, length, drop, replicate, Ok, Err, Result, nat_le, nat_lt, slice_index, slice_index_or, slice_set}
-use Rattle.std.specs.List.{AllByRecursion as All}
+use Rattle.std.specs.List.{AllByRecursion}
 use Rattle.terms.specs.declared.refusal.Refusal.{Refusal}
 use Rattle.terms.specs.declared.refusal.Refusal.TheVariants.{NoSuchFibre, StoreFull, StoreEmpty}
 
@@ -42,7 +42,7 @@ word_capacity n = min (4 * (n / 12)) largest
 
 -- a list of bytes
 abbrev pub Bytes : List ℕ → Type 0
-Bytes xs = All (λ b. b < 256) xs
+Bytes xs = AllByRecursion (λ b. b < 256) xs
 
 -- what holds of every store: there are twelve lists, none longer than the capacity, the capacity is at most 2,048, and all that waits are bytes
 pub record Sound (room : ℕ) (lists : List (List ℕ)) : Type 0 where

@@ -2,7 +2,7 @@
 -- Assumes nothing.
 use Rattle.std.proofs.Common.{◌≡◌, ℕ, ◌-◌, ◌<◌, ◌≤◌, List, [], ◌∷◌, map, length, get_or, take, sym, refl, ap, ◌∙◌, subst, arith, length-take}
 use native.Mathlib.Nat.{sub-zero}
-use Rattle.std.specs.List.{AllByRecursion as All}
+use Rattle.std.specs.List.{AllByRecursion}
 use Rattle.terms.specs.declared.pair.Side.{Side}
 use Rattle.terms.specs.Terms.{chip_number}
 use Rattle.rules.specs.Rules.{Meaning, InRange}
@@ -23,7 +23,7 @@ front n row vs e = ap (λ (k : ℕ). take k row) (sub-zero n) ∙ e
 
 -- the rule can be asked about the values that were gathered
 pub can_ask : (fibre : FibreSettings) (flats row : List ℕ) (f : ℕ) (side : Side) (chip n : ℕ) → f < 12 → chip ≡ chip_number f side
-    → All TenBits flats → length row ≡ 128 → n ≤ 128 → 0 < n → take n row ≡ map (λ s. get_or flats s 0) (counted_strips fibre side)
+    → AllByRecursion TenBits flats → length row ≡ 128 → n ≤ 128 → 0 < n → take n row ≡ map (λ s. get_or flats s 0) (counted_strips fibre side)
     → InRange chip (take (n - 0) row)
 can_ask fibre flats row f side chip n below at ten long few some e =
     let size : length (take n row) ≡ n = length-take n row ∙ omega arith in
@@ -34,7 +34,7 @@ can_ask fibre flats row f side chip n below at ten long few some e =
       some = omega arith;
       of_chip = omega arith;
       ten_bits =
-          subst (All (λ v. v ≤ 1023)) (sym (front n row (map (λ s. get_or flats s 0) (counted_strips fibre side)) e))
+          subst (AllByRecursion (λ v. v ≤ 1023)) (sym (front n row (map (λ s. get_or flats s 0) (counted_strips fibre side)) e))
           (all_of_map (λ v. v ≤ 1023) (λ s. get_or flats s 0) (λ s. all_at TenBits flats s ten (omega arith)) (counted_strips fibre side));
     }
 

@@ -1,7 +1,7 @@
 -- Every record formed is one of the layout.
 -- Assumes nothing.
 use Rattle.std.proofs.Common.{◌≡◌, ℕ, ◌+◌, ◌-◌, ◌*◌, ◌<◌, ◌≤◌, Bool, true, false, eqb, List, [], ◌∷◌, map, length, get_or, take, drop, refl, ap, ◌∙◌, arith}
-use Rattle.std.specs.List.{range_with_len, AllByRecursion as All}
+use Rattle.std.specs.List.{range_with_len, AllByRecursion}
 use Rattle.std.proofs.lemmas.List.FromFn.{length-range_with_len, length-map-range_with_len}
 use Rattle.std.proofs.ByRecursion.{All-append, All-take, All-drop}
 use Rattle.std.proofs.lemmas.List.{length-map, length-take, length-drop}
@@ -38,7 +38,7 @@ turned_most false x h = h
 flat_most : (p u : ℕ) → u ≤ 1023 → flat p u ≤ 1023
 flat_most p u h = grind (arith, nat_tests)
 
-pub flat_value_most : (fibre : FibreSettings) (samples : List ℕ) → All TenBits samples → (s : ℕ) → flat_value fibre samples s ≤ 1023
+pub flat_value_most : (fibre : FibreSettings) (samples : List ℕ) → AllByRecursion TenBits samples → (s : ℕ) → flat_value fibre samples s ≤ 1023
 flat_value_most fibre samples h s =
     flat_most (get_or fibre.pedestals s 0) (level fibre samples s)
     (turned_most fibre.complement (get_or samples (place_of s) 0) (all_at TenBits samples (place_of s) h (omega arith)))
@@ -69,7 +69,7 @@ counted_most fibre side =
 in_range :
     (f : ℕ) (fibre : FibreSettings) (samples : List ℕ) (side : Side) →
     f < 12 →
-    All TenBits samples →
+    AllByRecursion TenBits samples →
     1 ≤ length (map (flat_value fibre samples) (counted_strips fibre side)) →
     InRange (chip_number f side) (map (flat_value fibre samples) (counted_strips fibre side))
 in_range f fibre samples side h ten some =
@@ -86,7 +86,7 @@ mode_most :
     (meaning : Meaning) (f : ℕ) (fibre : FibreSettings) (samples : List ℕ) (side : Side) →
     Bounded meaning →
     f < 12 →
-    All TenBits samples →
+    AllByRecursion TenBits samples →
     common_mode meaning f fibre samples side ≤ 1023
 unfolding common_mode
 mode_most meaning f fibre samples side bounded h ten =
@@ -98,13 +98,13 @@ mode_most meaning f fibre samples side bounded h ten =
 abbrev EndsBy : ℕ → Run → Type 0
 EndsBy limit r = (r.address < limit) × (r.address + r.strips ≤ limit)
 
-ended_by : (limit at n : ℕ) (rest : List Run) → n ≤ at → at ≤ limit → All (EndsBy limit) rest → All (EndsBy limit) (ended at n rest)
+ended_by : (limit at n : ℕ) (rest : List Run) → n ≤ at → at ≤ limit → AllByRecursion (EndsBy limit) rest → AllByRecursion (EndsBy limit) (ended at n rest)
 ended_by limit at n rest h k a =
     let run : Run = record { address = at - n; strips = n } in
-    cond_both (eqb n 0) rest (run ∷ rest) (All (EndsBy limit)) (λ e. a)
+    cond_both (eqb n 0) rest (run ∷ rest) (AllByRecursion (EndsBy limit)) (λ e. a)
     (λ e. let some = eqb-false n 0 e in ((omega arith, omega arith), a))
 
-runs_end : (limit at n : ℕ) (bs : List Bool) → n ≤ at → at + length bs ≤ limit → All (EndsBy limit) (runs_from at n bs)
+runs_end : (limit at n : ℕ) (bs : List Bool) → n ≤ at → at + length bs ≤ limit → AllByRecursion (EndsBy limit) (runs_from at n bs)
 unfolding runs_from
 runs_end limit at n [] h k = ended_by limit at n [] h (omega arith) tt
 runs_end limit at n (true ∷ bs) h k = runs_end limit (at + 1) (n + 1) bs (omega arith) (omega arith)
@@ -114,7 +114,7 @@ runs_end limit at n (false ∷ bs) h k =
 belonging_length : (row : List Reached) → length (belonging row) ≡ length row
 belonging_length row = length-map-range_with_len (belongs row) 0 (length row)
 
-fibre_ends : (row : List Reached) → length row ≡ 256 → All (EndsBy 256) (cluster_runs row)
+fibre_ends : (row : List Reached) → length row ≡ 256 → AllByRecursion (EndsBy 256) (cluster_runs row)
 unfolding cluster_runs
 fibre_ends row long =
     let left = length-take 128 row in
@@ -126,14 +126,14 @@ fibre_ends row long =
     (runs_end 256 128 0 (belonging (drop 128 row)) (omega arith) (omega arith))
 
 -- the clusters on the runs cover just these
-cover : (values : List ℕ) (rs : List Run) → length values ≡ 256 → All (EndsBy 256) rs → map run_of (map (cluster_on values) rs) ≡ rs
+cover : (values : List ℕ) (rs : List Run) → length values ≡ 256 → AllByRecursion (EndsBy 256) rs → map run_of (map (cluster_on values) rs) ≡ rs
 cover values [] long h = refl
 cover values (r ∷ rs) long h =
     let one = values_on values r long h.0.1 in
     let more = cover values rs long h.1 in
     λ i. record { address = r.address; strips = one i } ∷ more i
 
-bytes : (values : List ℕ) (rs : List Run) → All Byte values → All (EndsBy 256) rs → All ClusterBytes (map (cluster_on values) rs)
+bytes : (values : List ℕ) (rs : List Run) → AllByRecursion Byte values → AllByRecursion (EndsBy 256) rs → AllByRecursion ClusterBytes (map (cluster_on values) rs)
 bytes values [] b h = tt
 bytes values (r ∷ rs) b h =
     ((h.0.0, All-take Byte r.strips (drop r.address values) (All-drop Byte r.address values b)), bytes values rs b h.1)
@@ -145,7 +145,7 @@ suppressed_ok :
     m.left ≤ 1023 →
     m.right ≤ 1023 →
     length values ≡ 256 →
-    All Byte values →
+    AllByRecursion Byte values →
     length row ≡ 256 →
     ContentOk kinds.ZeroSuppressed (suppressed m (map (cluster_on values) (cluster_runs row)))
 suppressed_ok m values row in_place left right long b all =

@@ -1,7 +1,7 @@
 -- How a fibre's record comes out of its values, step by step.
 -- Assumes nothing.
 use Rattle.std.proofs.Common.{◌≡◌, ℕ, ◌+◌, ◌*◌, ◌<◌, ◌≤◌, Bool, true, false, ◌&&◌, leb, List, [], ◌∷◌, map, length, get_or, set, Result, sym, refl, ap, ◌∙◌, subst, arith}
-use Rattle.std.specs.List.{range_with_len, AllByRecursion as All}
+use Rattle.std.specs.List.{range_with_len, AllByRecursion}
 use Rattle.std.proofs.lemmas.List.FromFn.{get_or-map-range_with_len, fill_by_all}
 use Rattle.std.proofs.lemmas.List.{get_or-map, length-map}
 use Rattle.std.proofs.lemmas.List.Edits.{fill_by_more}
@@ -29,14 +29,14 @@ use Rattle.strips.proofs.Rows.{all_of_map, all_counting, all_at, all_kept, same_
 use Rattle.strips.proofs.FormedRecords.{flat_value_most}
 
 -- samples and flat values have ten bits
-pub numbers_fit : (samples : List Sample) → All TenBits (numbers samples)
+pub numbers_fit : (samples : List Sample) → AllByRecursion TenBits (numbers samples)
 numbers_fit samples = all_of_map TenBits (λ x. x.value) (λ x. x.ten_bits) samples
 
-pub flats_fit : (fibre : FibreSettings) (samples : List Sample) → All TenBits (map (flat_value fibre (numbers samples)) strips)
+pub flats_fit : (fibre : FibreSettings) (samples : List Sample) → AllByRecursion TenBits (map (flat_value fibre (numbers samples)) strips)
 flats_fit fibre samples = all_of_map TenBits (flat_value fibre (numbers samples)) (flat_value_most fibre (numbers samples) (numbers_fit samples)) strips
 
 -- so words of them are never turned down
-pub never_above : (xs : List ℕ) → All TenBits xs → at_most 1023 xs ≡ false → ⊥
+pub never_above : (xs : List ℕ) → AllByRecursion TenBits xs → at_most 1023 xs ≡ false → ⊥
 never_above xs fit e =
     let z : true ≡ false = sym (at_most_from 1023 xs (λ k. all_at TenBits xs k fit (omega arith))) ∙ e in
     let one : Bool → ℕ = λ b. elim b [ true ↦ 1 | false ↦ 0 ] in
@@ -89,7 +89,7 @@ chip_below : (side : Side) (k : ℕ) → k < 128 * side_number side + 128 → k 
 chip_below Left k h = omega arith
 chip_below Right k h = omega arith
 
-map_alike : (f g : ℕ → ℕ) (P : ℕ → Type 0) (xs : List ℕ) → All P xs → ((k : ℕ) → P k → f k ≡ g k) → map f xs ≡ map g xs
+map_alike : (f g : ℕ → ℕ) (P : ℕ → Type 0) (xs : List ℕ) → AllByRecursion P xs → ((k : ℕ) → P k → f k ≡ g k) → map f xs ≡ map g xs
 map_alike f g P [] all e = refl
 map_alike f g P (x ∷ xs) all e =
     ap (λ (y : ℕ). y ∷ map f xs) (e x all.0) ∙ ap (λ (r : List ℕ). g x ∷ r) (map_alike f g P xs all.1 e)

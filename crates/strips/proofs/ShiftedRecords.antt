@@ -1,7 +1,7 @@
 -- Shifted inputs give shifted zero-suppressed records.
 -- Assumes nothing.
 use Rattle.std.proofs.Common.{◌≡◌, ℕ, ◌-◌, ◌*◌, ◌/◌, ◌<◌, ◌≤◌, min, Bool, true, false, ltb, List, [], ◌∷◌, map, length, get_or, ℤ, pos, ◌+ℤ◌, sym, refl, ap, ◌∙◌, subst, ⊎_elim, arith}
-use Rattle.std.specs.List.{range_with_len, AllByRecursion as All}
+use Rattle.std.specs.List.{range_with_len, AllByRecursion}
 use Rattle.std.proofs.ByRecursion.{All-map, All-weaker}
 use Rattle.std.proofs.lemmas.List.{length-map}
 use Rattle.std.proofs.lemmas.Int.{ints}
@@ -72,7 +72,7 @@ side_left s h = cond-true (ltb s 128) Left Right (lt-ltb s 128 h)
 side_right : (s : ℕ) → 128 ≤ s → side_of s ≡ Right
 side_right s h = cond-false (ltb s 128) Left Right (le-ltb s 128 h)
 
-of_side : (side : Side) → All (OfSide side) (range_with_len (128 * side_number side) 128)
+of_side : (side : Side) → AllByRecursion (OfSide side) (range_with_len (128 * side_number side) 128)
 of_side Left = all_counting (OfSide Left) 0 128 (λ k l u. (omega arith, side_left k (omega arith)))
 of_side Right = all_counting (OfSide Right) 128 128 (λ k l u. (omega arith, side_right k l))
 
@@ -104,17 +104,17 @@ module _ (fibre : FibreSettings) (c : Side → ℤ) (xs ys : List ℕ) (sh : Shi
         flat_shifts p (level fibre xs s) (level fibre ys s) (c (side_of s)) above.0 above.1 scale.0 scale.1 (sh.by_constant s h e),
       )
 
-  counted : (side : Side) → All (λ s. OfSide side s × (counts fibre s ≡ true)) (counted_strips fibre side)
+  counted : (side : Side) → AllByRecursion (λ s. OfSide side s × (counts fibre s ≡ true)) (counted_strips fibre side)
   unfolding counted_strips
   counted side = all_kept (counts fibre) (OfSide side) (range_with_len (128 * side_number side) 128) (of_side side)
 
-  one_small : (side : Side) → All (λ v. v ≤ 1022) (map (flat_value fibre xs) (counted_strips fibre side))
+  one_small : (side : Side) → AllByRecursion (λ v. v ≤ 1022) (map (flat_value fibre xs) (counted_strips fibre side))
   one_small side =
       All-map (λ v. v ≤ 1022) (flat_value fibre xs) (counted_strips fibre side)
       (All-weaker (λ s. OfSide side s × (counts fibre s ≡ true)) (λ s. flat_value fibre xs s ≤ 1022)
       (λ s h. (flats s h.0.0 h.1).0) (counted_strips fibre side) (counted side))
 
-  other_small : (side : Side) → All (λ v. v ≤ 1022) (map (flat_value fibre ys) (counted_strips fibre side))
+  other_small : (side : Side) → AllByRecursion (λ v. v ≤ 1022) (map (flat_value fibre ys) (counted_strips fibre side))
   other_small side =
       All-map (λ v. v ≤ 1022) (flat_value fibre ys) (counted_strips fibre side)
       (All-weaker (λ s. OfSide side s × (counts fibre s ≡ true)) (λ s. flat_value fibre ys s ≤ 1022)

@@ -1,7 +1,7 @@
 -- What holds of every record that is formed.
 -- Assumes nothing.
 use Rattle.std.specs.Prelude.{◌≡◌, ℕ, ◌+◌, ◌*◌, ◌<◌, ◌≤◌, true, List, length, take, drop, ℤ, pos, ◌+ℤ◌, ◌≢◌, slice_index}
-use Rattle.std.specs.List.{AllByRecursion as All}
+use Rattle.std.specs.List.{AllByRecursion}
 use Rattle.terms.specs.declared.pair.Side.{Side}
 use Rattle.terms.specs.declared.pair.Side.TheVariants.{Left, Right}
 use Rattle.rules.specs.Rules.{Meaning, InRange, ShiftLaw}
@@ -19,7 +19,7 @@ Bounded meaning = (chip setting : ℕ) (vs : List ℕ) → InRange chip vs → m
 abbrev pub RecordsOfTheLayout : Type 0
 RecordsOfTheLayout =
     (meaning : Meaning) (f : ℕ) (fibre : FibreSettings) (mode : Mode) (samples : List ℕ)
-    → Bounded meaning → f < 12 → length samples ≡ 256 → All TenBits samples
+    → Bounded meaning → f < 12 → length samples ≡ 256 → AllByRecursion TenBits samples
     → ContentOk (kind_in mode) (content_in meaning f fibre mode samples)
 
 -- the two inputs of a fibre differ by a constant on each chip: every strip that counts has u in the one and u + c in the

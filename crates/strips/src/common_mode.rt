@@ -1,6 +1,6 @@
 // The common mode of a chip, estimated from its strips that count.
 ghost use Rattle.std.specs.Prelude.{◌≡◌, ℕ, ◌*◌, ◌≤◌, List, map, length, take, slice_index};
-ghost use Rattle.std.specs.List.{AllByRecursion as All};
+ghost use Rattle.std.specs.List.{AllByRecursion};
 ghost use Rattle.terms.specs.Terms.{part, side_number, chip_number};
 ghost use Rattle.terms.specs.declared.pair.Side.TheVariants.{Left, Right};
 ghost use Rattle.layout.specs.Event.{TenBits};
@@ -50,7 +50,7 @@ fn common_mode<R: Rule>(
     settings: &FibreSettings,
     flats: &[u16; STRIPS],
 ) -> u16
-    requires { All TenBits flats.now }
+    requires { AllByRecursion TenBits flats.now }
     ensures value { result ≡ estimated (R.Rule.meaning rule.now (chip_number fibre.index side) (part settings.now.ranks side)) (map (λ s. slice_index flats.now s) (counted_strips settings.now side)) }
     ensures bound { result ≤ 1023 }
 {
@@ -72,7 +72,7 @@ pub(crate) fn common_modes<R: Rule>(
     settings: &FibreSettings,
     flats: &[u16; STRIPS],
 ) -> Pair<u16>
-    requires { All TenBits flats.now }
+    requires { AllByRecursion TenBits flats.now }
     ensures left { (result.left ≡ estimated (R.Rule.meaning rule.now (chip_number fibre.index Left) (part settings.now.ranks Left)) (map (λ s. slice_index flats.now s) (counted_strips settings.now Left))) × (result.left ≤ 1023) }
     ensures right { (result.right ≡ estimated (R.Rule.meaning rule.now (chip_number fibre.index Right) (part settings.now.ranks Right)) (map (λ s. slice_index flats.now s) (counted_strips settings.now Right))) × (result.right ≤ 1023) }
 {

@@ -4,7 +4,7 @@ use Rattle.std.proofs.Common.{◌≡◌, ℕ, ◌+◌, ◌*◌, ◌/◌, ◌%◌
 use mathlib.Core.Path.{fun_ext}
 use Rattle.std.proofs.ByRecursion.{All-weaker}
 use Rattle.std.proofs.lemmas.Bool.{lt-ltb, le-ltb, eqb-true, eqb-false, both_ways}
-use Rattle.std.specs.List.{AllZip, AllByRecursion as All}
+use Rattle.std.specs.List.{AllZip, AllByRecursion}
 use Rattle.terms.specs.declared.pair.Side.{Side}
 use Rattle.terms.specs.declared.pair.Side.TheVariants.{Left, Right}
 use Rattle.terms.specs.Terms.{part}
@@ -35,7 +35,7 @@ kept false true false = refl
 kept false false true = refl
 kept false false false = refl
 
-count_kept : (q : Question) (t : Bool) (xs : List Standing) → All (λ x. (side : Side) → holds q x side ≡ (votes x side && t)) xs
+count_kept : (q : Question) (t : Bool) (xs : List Standing) → AllByRecursion (λ x. (side : Side) → holds q x side ≡ (votes x side && t)) xs
     → count q xs ≡ cond t (count InStep xs) 0
 count_kept q true [] h = refl
 count_kept q false [] h = refl
@@ -68,7 +68,7 @@ agreed_bit xs h b agree some =
     ∙ ap one_if (all_or_none t (count InStep xs) some)
     ∙ bit_test (h / 2 ^ b)
   where
-    each : All (λ x. (side : Side) → holds (HeaderBit b) x side ≡ (votes x side && eqb (bit_of b h) 1)) xs
+    each : AllByRecursion (λ x. (side : Side) → holds (HeaderBit b) x side ≡ (votes x side && eqb (bit_of b h) 1)) xs
     each =
         All-weaker (λ (x : Standing). (side : Side) → votes x side ≡ true → part x.header.bytes side ≡ h)
         (λ (x : Standing). (side : Side) → holds (HeaderBit b) x side ≡ (votes x side && eqb (bit_of b h) 1))

@@ -1,7 +1,7 @@
 -- What a vote is for.
 -- Assumes nothing.
 use Rattle.std.specs.Prelude.{◌≡◌, ℕ, ◌<◌, Bool, true, false, List, ◌++◌, replicate}
-use Rattle.std.specs.List.{AllZip, AllByRecursion as All}
+use Rattle.std.specs.List.{AllZip, AllByRecursion}
 use Rattle.terms.specs.declared.enable.Enable.TheVariants as enables
 use Rattle.terms.specs.declared.pair.Side.{Side}
 use Rattle.terms.specs.Terms.{part}
@@ -13,7 +13,7 @@ use Rattle.synch.specs.Status.{status_word}
 
 -- every chip that votes has the header h
 abbrev pub Agree : ℕ → List Standing → Type 0
-Agree h xs = All (λ x. (side : Side) → votes x side ≡ true → part x.header.bytes side ≡ h) xs
+Agree h xs = AllByRecursion (λ x. (side : Side) → votes x side ≡ true → part x.header.bytes side ≡ h) xs
 
 -- where all voters agree, and there is one, the majority header is theirs
 abbrev pub AgreedHeader : Type 0

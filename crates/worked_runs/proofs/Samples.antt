@@ -1,7 +1,7 @@
 -- Tests that say yes only of the samples of twins, Clock by Clock.
 -- Assumes nothing.
 use Rattle.std.proofs.Common.{◌≡◌, ℕ, ◌+◌, ◌<◌, ◌≤◌, Bool, true, false, not, ◌&&◌, ◌||◌, eqb, leb, List, [], ◌∷◌, length, get_or, ℤ, pos, negsuc, ◌+ℤ◌, Some, None, Option, refl, ap, ◌∙◌, subst, ⊎_elim, arith, lit<}
-use Rattle.std.specs.List.{range_with_len, AllByRecursion as All}
+use Rattle.std.specs.List.{range_with_len, AllByRecursion}
 use Rattle.std.proofs.lemmas.List.FromFn.{length-range_with_len, get_or-range_with_len}
 use Rattle.std.proofs.ByRecursion.{All-get_or}
 use Rattle.std.proofs.lemmas.Bool.{both_ways, and_parts, or_cases, eqb-true, leb-true}
@@ -62,7 +62,7 @@ abbrev every : (ℕ → Bool) → List ℕ → Bool
 every test [] = true
 every test (k ∷ ks) = test k && every test ks
 
-all_if : (test : ℕ → Bool) (ks : List ℕ) → every test ks ≡ true → All (λ k. test k ≡ true) ks
+all_if : (test : ℕ → Bool) (ks : List ℕ) → every test ks ≡ true → AllByRecursion (λ k. test k ≡ true) ks
 all_if test [] e = tt
 all_if test (k ∷ ks) e = let p = and_parts (test k) (every test ks) e in (p.0, all_if test ks p.1)
 

@@ -1,6 +1,6 @@
 // Reads an event.
 ghost use Rattle.std.specs.Prelude.{◌≡◌, ℕ, ◌+◌, ◌^◌, ◌<◌, ◌≤◌, ◌++◌, length, Some, None, MatchResult, OnOk};
-ghost use Rattle.std.specs.List.{AllByRecursion as All};
+ghost use Rattle.std.specs.List.{AllByRecursion};
 ghost use Rattle.layout.specs.Event.{Byte};
 ghost use Rattle.reader.specs.Parts.{Accepted, Rejected, AcceptedFront, RejectedFront};
 ghost use Rattle.reader.specs.Questions.{ok_map, ends_at, read_records};
@@ -15,7 +15,7 @@ use terms::FIBRES;
 // Reads the twelve records at the front of an input, and answers where the last of them ends.
 fn read_records(input: &[u8]) -> Result<usize, EventFault>
     ensures end { result ≡ ok_map ends_at (read_records 12 None 0 input.now) }
-    ensures bytes { OnOk result (All Byte input.now) }
+    ensures bytes { OnOk result (AllByRecursion Byte input.now) }
 {
     let mut left = input;
     let mut at = 0;

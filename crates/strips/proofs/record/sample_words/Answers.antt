@@ -1,5 +1,5 @@
 use Rattle.std.proofs.Common.{ℕ, List, get_or, sym, ap, ◌∙◌, subst, arith, length-set}
-use Rattle.std.specs.List.{AllByRecursion as All}
+use Rattle.std.specs.List.{AllByRecursion}
 use Rattle.layout.specs.Event.{words, TenBits}
 use Rattle.strips.specs.Fibre.{numbers}
 use Rattle.strips.proofs.Forming.{numbers_fit, never_above, fill_more, number_at, numbers_are}
@@ -16,7 +16,7 @@ loop-place-preserved c = (
 pub unreachable-requires : goal.unreachable-requires
 unreachable-requires c =
     let same = numbers_are c.args.samples.now c.loop-place.list c.told-samples c.loop-place.invariant.0 (λ k h. c.loop-place.invariant.1 k (omega arith)) in
-    never_above c.loop-place.list (subst (λ (xs : List ℕ). All TenBits xs) (sym same) (numbers_fit c.args.samples.now)) c.in-None.ensures
+    never_above c.loop-place.list (subst (λ (xs : List ℕ). AllByRecursion TenBits xs) (sym same) (numbers_fit c.args.samples.now)) c.in-None.ensures
 
 pub returns : goal.returns
 returns c =

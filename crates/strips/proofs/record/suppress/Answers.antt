@@ -1,5 +1,5 @@
 use Rattle.std.proofs.Common.{ℕ, List, sym, subst}
-use Rattle.std.specs.List.{AllByRecursion as All}
+use Rattle.std.specs.List.{AllByRecursion}
 use Rattle.layout.specs.Event.{TenBits}
 use Rattle.layout.specs.Contents.{listed, suppressed_content}
 use Rattle.strips.specs.Fibre.{numbers}
@@ -8,7 +8,7 @@ use Rattle.strips.proofs.record.suppress.Goals as goal
 
 pub common_modes-modes-requires : goal.common_modes-modes-requires
 common_modes-modes-requires g c =
-    subst (λ (xs : List ℕ). All TenBits xs) (sym c.flat_values-flats.ensures) (flats_fit c.args.settings.now c.args.samples.now)
+    subst (λ (xs : List ℕ). AllByRecursion TenBits xs) (sym c.flat_values-flats.ensures) (flats_fit c.args.settings.now c.args.samples.now)
 
 pub unreachable-requires : goal.unreachable-requires
 unreachable-requires g c =
