@@ -54,10 +54,10 @@ module _ (core : Core) (in_step : List Bool) where
       → state_of (with_capture core (Some capture) core.rows) lists room
       ≡ (sought (state_of core lists room) (watches_in core.tickers) in_step).next_card
   unfolding columns_before
-  begins capture at flags begun-now =
+  begins capture at flags begun_now =
       sought_as (Some capture)
       (ap₂ (λ (p : ℕ) (b : List Bool). Some (record { position = p; in_step = b; columns = columns_before (rows_in core.rows) p })) at flags
-      ∙ sym (ap (begun in_step) begun-now))
+      ∙ sym (ap (begun in_step) begun_now))
 
 -- the answer within a capture
 pub within_quiet : (position : ℕ) (fibres : List Standing) → (position ≡ 23 → ⊥) → plain quiet ≡ plain (within_answer position fibres)

@@ -8,10 +8,10 @@ use Rattle.std.proofs.lemmas.Bool.{cond-true, cond-false, le-leb, lt-leb}
 use Rattle.strips.specs.declared.sample.Sample.{Sample}
 use Rattle.strips.specs.Fibre.{numbers}
 use Rattle.card_model.specs.Clock.{first_sample}
-use Rattle.card_model.proofs.Fibres.{getD_for, for_same}
+use Rattle.card_model.proofs.Fibres.{get_or_for, for_same}
 use Rattle.card.specs.declared.row.Row.{Row}
 use Rattle.card.specs.Abstraction.{rows_in, sample_at, column_at, columns_before}
-use Rattle.card.specs.Columns.{Column-set}
+use Rattle.card.specs.Columns.{ColumnSet}
 use Rattle.card.proofs.Fibres.{filled, Upto, upto_here, upto_more, upto_all}
 use Rattle.card.proofs.Queue.{map_same}
 
@@ -36,39 +36,39 @@ row_at rows f d h = get_or-map (λ (x : Row). numbers x.samples) rows f d [] h
 
 module _ (before : List Row) (place : ℕ) (samples : List ℕ) where
   -- a row with its sample at the place
-  abbrev pub set-row : ℕ → List ℕ
-  set-row f = set (get_or (rows_in before) f []) place (get_or samples f 0)
+  abbrev pub set_row : ℕ → List ℕ
+  set_row f = set (get_or (rows_in before) f []) place (get_or samples f 0)
 
   pub set_more : (rows : List Row) (i : ℕ) (d new : Row) (x : Sample) → i < 12 → length rows ≡ 12
-      → Upto set-row [] (rows_in before) i (rows_in rows)
+      → Upto set_row [] (rows_in before) i (rows_in rows)
       → new.samples ≡ set (get_or rows i d).samples place x → x.value ≡ get_or samples i 0
-      → Upto set-row [] (rows_in before) (i + 1) (rows_in (set rows i new))
+      → Upto set_row [] (rows_in before) (i + 1) (rows_in (set rows i new))
   set_more rows i d new x below long inv put is =
       let was : numbers (get_or rows i d).samples ≡ get_or (rows_in before) i [] =
-      sym (row_at rows i d (omega arith)) ∙ upto_here set-row [] (rows_in before) i (rows_in rows) below inv
+      sym (row_at rows i d (omega arith)) ∙ upto_here set_row [] (rows_in before) i (rows_in rows) below inv
       in
-      let here : numbers new.samples ≡ set-row i =
+      let here : numbers new.samples ≡ set_row i =
       ap numbers put
       ∙ (map-set (λ (y : Sample). y.value) (get_or rows i d).samples place x
       ∙ ap₂ (λ (row : List ℕ) (n : ℕ). set row place n) was is)
       in
-      subst (Upto set-row [] (rows_in before) (i + 1)) (sym (rows_set rows i new))
-      (upto_more set-row [] (rows_in before) i (rows_in rows) (numbers new.samples) below (length_rows rows ∙ long) inv here)
+      subst (Upto set_row [] (rows_in before) (i + 1)) (sym (rows_set rows i new))
+      (upto_more set_row [] (rows_in before) i (rows_in rows) (numbers new.samples) below (length_rows rows ∙ long) inv here)
 
   pub set_all : (rows : List Row) (i : ℕ) → 12 ≤ i → length before ≡ 12 → length rows ≡ 12 → length samples ≡ 12 → place < 256
-      → Upto set-row [] (rows_in before) i (rows_in rows) → Column-set (rows_in before) place samples (rows_in rows)
+      → Upto set_row [] (rows_in before) i (rows_in rows) → ColumnSet (rows_in before) place samples (rows_in rows)
   set_all rows i all twelve long many small inv =
       record {
         twelve = many;
         inside = λ f h. omega (arith, rows_long before f (omega arith));
-        rows = upto_all set-row [] (rows_in before) i (rows_in rows) all (length_rows rows ∙ long) inv;
+        rows = upto_all set_row [] (rows_in before) i (rows_in rows) all (length_rows rows ∙ long) inv;
       }
 
-module _ (before : List (List ℕ)) (place : ℕ) (samples : List ℕ) (after : List (List ℕ)) (k : Column-set before place samples after) where
+module _ (before : List (List ℕ)) (place : ℕ) (samples : List ℕ) (after : List (List ℕ)) (k : ColumnSet before place samples after) where
   after_at : (p f : ℕ) → f < 12 → sample_at after p f ≡ get_or (set (get_or before f []) place (get_or samples f 0)) p 0
   after_at p f h =
       ap (λ (rows : List (List ℕ)). sample_at rows p f) k.rows
-      ∙ ap (λ (row : List ℕ). get_or row p 0) (getD_for (λ g. set (get_or before g []) place (get_or samples g 0)) f [] h)
+      ∙ ap (λ (row : List ℕ). get_or row p 0) (get_or_for (λ g. set (get_or before g []) place (get_or samples g 0)) f [] h)
 
   other_column : (p : ℕ) → p ≢ place → column_at after p ≡ column_at before p
   unfolding column_at

@@ -19,7 +19,7 @@ use Rattle.strips.specs.Laws.{Bounded}
 use Rattle.strips.proofs.FormedRecords.{records_of_the_layout}
 use Rattle.card_model.specs.Readout.{record_of, lengths_of}
 use Rattle.card_model.specs.Clock.{row, records_of}
-use Rattle.card_model.proofs.Fibres.{getD_for, for_same}
+use Rattle.card_model.proofs.Fibres.{get_or_for, for_same}
 use Rattle.card.specs.declared.row.Row.{Row}
 use Rattle.card.specs.Abstraction.{rows_in, sample_at, column_at, columns_before}
 use Rattle.card.specs.Event.{event_in, RecordFormed, Formed}
@@ -57,7 +57,7 @@ unfolding columns_before column_at
 row_of rows f twelve below =
     fill_by_all (sample_at' f) (get_or (rows_in rows) f []) 256 0 (rows_long rows f (omega arith)) (λ p h. refl)
     ∙ sym (twice (column_at (rows_in rows)) (λ (column : List ℕ). get_or column f 0) (range_with_len 0 256)
-    ∙ same (λ p. get_or (column_at (rows_in rows) p) f 0) (sample_at' f) (range_with_len 0 256) (λ p. getD_for (sample_at (rows_in rows) p) f 0 below))
+    ∙ same (λ p. get_or (column_at (rows_in rows) p) f 0) (sample_at' f) (range_with_len 0 256) (λ p. get_or_for (sample_at (rows_in rows) p) f 0 below))
   where
     sample_at' : ℕ → ℕ → ℕ
     sample_at' g p = sample_at (rows_in rows) p g
@@ -72,12 +72,12 @@ row_of rows f twelve below =
 
 module _ (meaning : Meaning) (settings : CardSettings) (rows : List Row) where
   -- the record of a fibre
-  abbrev pub formed-by : ℕ → List ℕ
-  formed-by f = fibre_record meaning f (of_fibre settings f) settings.mode (get_or (rows_in rows) f [])
+  abbrev pub formed_by : ℕ → List ℕ
+  formed_by f = fibre_record meaning f (of_fibre settings f) settings.mode (get_or (rows_in rows) f [])
 
   -- the records of the fibres below i are formed
   pub record Below (i : ℕ) (buffers : List (List ℕ)) (lengths : List ℕ) : Type 0 where
-    pub each : (f : ℕ) → f < i → RecordFormed (formed-by f) (get_or buffers f []) (get_or lengths f 0)
+    pub each : (f : ℕ) → f < i → RecordFormed (formed_by f) (get_or buffers f []) (get_or lengths f 0)
 
   pub below_none : (buffers : List (List ℕ)) (lengths : List ℕ) → Below 0 buffers lengths
   below_none buffers lengths = record { each = λ f h. absurd (omega arith) }
@@ -94,8 +94,8 @@ module _ (meaning : Meaning) (settings : CardSettings) (rows : List Row) where
             (λ same.
             let b : get_or (set buffers i buffer) f [] ≡ buffer = ap (λ (g : ℕ). get_or (set buffers i buffer) g []) same ∙ get_or-set_same buffers i buffer [] (omega arith) in
             let l : get_or (set lengths i n) f 0 ≡ n = ap (λ (g : ℕ). get_or (set lengths i n) g 0) same ∙ get_or-set_same lengths i n 0 (omega arith) in
-            let r : formed-by f ≡ fibre_record meaning i (of_fibre settings i) settings.mode (numbers (get_or rows i d).samples) =
-            ap formed-by same ∙ ap (fibre_record meaning i (of_fibre settings i) settings.mode) (row_at rows i d (omega arith))
+            let r : formed_by f ≡ fibre_record meaning i (of_fibre settings i) settings.mode (numbers (get_or rows i d).samples) =
+            ap formed_by same ∙ ap (fibre_record meaning i (of_fibre settings i) settings.mode) (row_at rows i d (omega arith))
             in
             record { bytes_are = ap₂ take l b ∙ (new.bytes_are ∙ sym r); length_is = l ∙ (new.length_is ∙ sym (ap length r)); within = omega (arith, new.within) })
             (λ other.
@@ -111,12 +111,12 @@ module _ (meaning : Meaning) (settings : CardSettings) (rows : List Row) where
   unfolding event_in records_of lengths_of
   below_all buffers lengths i all long twelve inv =
       let event = records_of meaning settings (columns_before (rows_in rows) 280) in
-      let each : (f : ℕ) → f < 12 → formed-by f ≡ fibre_record meaning f (of_fibre settings f) settings.mode (row (columns_before (rows_in rows) 280) f) =
+      let each : (f : ℕ) → f < 12 → formed_by f ≡ fibre_record meaning f (of_fibre settings f) settings.mode (row (columns_before (rows_in rows) 280) f) =
       λ f h. ap (fibre_record meaning f (of_fibre settings f) settings.mode) (row_of rows f twelve h)
       in
-      let got : (f : ℕ) → f < 12 → record_of event f ≡ formed-by f =
+      let got : (f : ℕ) → f < 12 → record_of event f ≡ formed_by f =
       λ f h.
-      getD_for (λ g. fibre_record meaning g (of_fibre settings g) settings.mode (row (columns_before (rows_in rows) 280) g)) f [] h ∙ sym (each f h)
+      get_or_for (λ g. fibre_record meaning g (of_fibre settings g) settings.mode (row (columns_before (rows_in rows) 280) g)) f [] h ∙ sym (each f h)
       in
       record {
         records =

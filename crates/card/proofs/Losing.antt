@@ -12,7 +12,7 @@ use Rattle.card_model.specs.Calls.{Answer, plain, kept, lost}
 use Rattle.card_model.specs.State.{CardState, Readout}
 use Rattle.card_model.specs.Readout.{record_of, lengths_of, event_length, most_events, exceeds, lacking, loss, with_event}
 use Rattle.card_model.specs.Clock.{records_of, readout_after, completed_answer, completing, last_position, in_capture}
-use Rattle.card_model.proofs.Fibres.{getD_for, for_same, lowest_same, lowest_none, none_lowest}
+use Rattle.card_model.proofs.Fibres.{get_or_for, for_same, lowest_same, lowest_none, none_lowest}
 use Rattle.card.specs.declared.capture.Capture.{Capture}
 use Rattle.card.specs.declared.clocked.Loss.{Loss}
 use Rattle.card.specs.declared.inner.Core.{Core}
@@ -34,7 +34,7 @@ loss_as r event lengths e =
     (lowest_same (exceeds_by r.room r.lists lengths) (exceeds r event)
     (λ f h.
     ap (ltb (r.room - level_of r.lists f))
-    (ap (λ (ls : List ℕ). get_or ls f 0) e ∙ getD_for (λ g. length (record_of event g)) f 0 h)))
+    (ap (λ (ls : List ℕ). get_or ls f 0) e ∙ get_or_for (λ g. length (record_of event g)) f 0 h)))
 
 module _ (room : ℕ) (lists : List (List ℕ)) (events : ℕ) (lengths : List ℕ) where
   pub loss_many : 255 ≤ events → Some model.too_many ≡ loss_by room lists events lengths
@@ -96,7 +96,7 @@ module _ (before : List (List ℕ)) (buffers : List (List ℕ)) (lengths : List 
   put_all lists i all twelve inv =
       upto_all put_by [] before i lists all twelve inv
       ∙ for_same put_by (λ f. waiting before f ++ record_of (event_in buffers lengths) f)
-      (λ f h. ap (λ (xs : List ℕ). waiting before f ++ xs) (sym (getD_for (λ g. take (get_or lengths g 0) (get_or buffers g [])) f [] h)))
+      (λ f h. ap (λ (xs : List ℕ). waiting before f ++ xs) (sym (get_or_for (λ g. take (get_or lengths g 0) (get_or buffers g [])) f [] h)))
 
   -- a record that fits is put
   pub put_goes : (room : ℕ) (lists : List (List ℕ)) (i : ℕ) (bytes : List ℕ) → i < 12 → FitsAll room before lengths
@@ -149,7 +149,7 @@ module _ (core : Core) (lists : List (List ℕ)) (room : ℕ) (event : List (Lis
       → queued after ≡ queued core.waiting ++ lengths ∷ [] → n ≡ event_length lengths
       → Leads (completing (state_of core lists room) (watches_in core.tickers) event) (state_of (with_waiting core after) lists' room') (kept n)
   unfolding state_of completing with_event
-  event_kept after lists' room' n idle long is put same behind total-is =
+  event_kept after lists' room' n idle long is put same behind total_is =
       let r = (state_of core lists room).readout in
       let why : None ≡ loss r event = is ∙ loses long in
       let readout : (state_of (with_waiting core after) lists' room').readout ≡ with_event r event =
@@ -162,7 +162,7 @@ module _ (core : Core) (lists : List (List ℕ)) (room : ℕ) (event : List (Lis
         state =
             ap₂ (λ (k : _) (x : Readout). record { settings = core.settings; watches = watches_in core.tickers; capture = k; readout = x })
             (ap (capture_in (rows_in core.rows)) idle) (readout ∙ ap (readout_after r event) why);
-        says = ap kept (total-is ∙ ap event_length long) ∙ ap (completed_answer event) why;
+        says = ap kept (total_is ∙ ap event_length long) ∙ ap (completed_answer event) why;
       }
 
 -- an event by its buffers

@@ -44,8 +44,8 @@ pushed w w' x long room rows head count =
     let g = event_at w.rows w.head in
     let h = event_at (set w.rows (round (w.head + w.count)) x) w.head in
     let n = w.count in
-    let in-ring : round (w.head + n) < length w.rows = grind arith in
-    let new : h n ≡ x = get_or-set_same w.rows (round (w.head + n)) x [] in-ring in
+    let in_ring : round (w.head + n) < length w.rows = grind arith in
+    let new : h n ≡ x = get_or-set_same w.rows (round (w.head + n)) x [] in_ring in
     let old : (k : ℕ) → k < n → h k ≡ g k = λ k l.
     let apart : round (w.head + k) ≢ round (w.head + n) = grind arith in
     get_or-set_other w.rows (round (w.head + n)) (round (w.head + k)) x [] apart

@@ -27,27 +27,27 @@ unfolding watches_in
 length_watches tickers = length-map tickers watch_in
 
 module _ (settings : CardSettings) (before : List Ticker) where
-  abbrev pub sent-by : ℕ → Watch
-  sent-by f = sent_off (of_fibre settings f).enable (watch_of (watches_in before) f)
+  abbrev pub sent_by : ℕ → Watch
+  sent_by f = sent_off (of_fibre settings f).enable (watch_of (watches_in before) f)
 
   pub sent_more : (tickers : List Ticker) (i : ℕ) (d new : Ticker) (e : FibreSettings) → i < 12 → length tickers ≡ 12
-      → length settings.fibres ≡ 12 → Upto sent-by off (watches_in before) i (watches_in tickers)
+      → length settings.fibres ≡ 12 → Upto sent_by off (watches_in before) i (watches_in tickers)
       → new.state ≡ sent (get_or settings.fibres i e).enable → new.header ≡ (get_or tickers i d).header
-      → Upto sent-by off (watches_in before) (i + 1) (watches_in (set tickers i new))
+      → Upto sent_by off (watches_in before) (i + 1) (watches_in (set tickers i new))
   sent_more tickers i d new e below long longs inv state header =
       let fibre : get_or settings.fibres i e ≡ of_fibre settings i = get_or_default settings.fibres i e no_fibre (omega arith) in
-      let was : watch_of (watches_in tickers) i ≡ watch_of (watches_in before) i = upto_here sent-by off (watches_in before) i (watches_in tickers) below inv in
-      let here : watch_in new ≡ sent-by i =
+      let was : watch_of (watches_in tickers) i ≡ watch_of (watches_in before) i = upto_here sent_by off (watches_in before) i (watches_in tickers) below inv in
+      let here : watch_in new ≡ sent_by i =
       sent_as tickers i d new (get_or settings.fibres i e).enable (omega arith) state header
       ∙ ap₂ (λ (x : FibreSettings) (w : Watch). sent_off x.enable w) fibre was
       in
-      subst (Upto sent-by off (watches_in before) (i + 1)) (sym (watches_set tickers i new))
-      (upto_more sent-by off (watches_in before) i (watches_in tickers) (watch_in new) below (length_watches tickers ∙ long) inv here)
+      subst (Upto sent_by off (watches_in before) (i + 1)) (sym (watches_set tickers i new))
+      (upto_more sent_by off (watches_in before) i (watches_in tickers) (watch_in new) below (length_watches tickers ∙ long) inv here)
 
-  pub sent_all : (tickers : List Ticker) (i : ℕ) → 12 ≤ i → length tickers ≡ 12 → Upto sent-by off (watches_in before) i (watches_in tickers)
+  pub sent_all : (tickers : List Ticker) (i : ℕ) → 12 ≤ i → length tickers ≡ 12 → Upto sent_by off (watches_in before) i (watches_in tickers)
       → watches_in tickers ≡ all_sent settings (watches_in before)
   unfolding all_sent
-  sent_all tickers i all long inv = upto_all sent-by off (watches_in before) i (watches_in tickers) all (length_watches tickers ∙ long) inv
+  sent_all tickers i all long inv = upto_all sent_by off (watches_in before) i (watches_in tickers) all (length_watches tickers ∙ long) inv
 
 -- a core with tickers and a queue, and no capture
 abbrev pub restarted : Core → List Ticker → Waiting → Core

@@ -27,28 +27,28 @@ use Rattle.card.proofs.Loading.{watch_at, watches_set}
 use Rattle.card.proofs.Restarting.{length_watches}
 
 module _ (settings : CardSettings) (before : List Ticker) (samples : List ℕ) where
-  abbrev pub ticked-by : ℕ → Watch
-  ticked-by f = ticked (of_fibre settings f) (get_or samples f 0) (watch_of (watches_in before) f)
+  abbrev pub ticked_by : ℕ → Watch
+  ticked_by f = ticked (of_fibre settings f) (get_or samples f 0) (watch_of (watches_in before) f)
 
-  abbrev pub pulsed-by : ℕ → Bool
-  pulsed-by f = pulses (of_fibre settings f).enable (watch_of (watches_in before) f).state (is_one (get_or samples f 0) (of_fibre settings f).threshold)
+  abbrev pub pulsed_by : ℕ → Bool
+  pulsed_by f = pulses (of_fibre settings f).enable (watch_of (watches_in before) f).state (is_one (get_or samples f 0) (of_fibre settings f).threshold)
 
   -- the watch of a fibre that has not ticked yet
   not_yet : (tickers : List Ticker) (i : ℕ) (d : Ticker) → i < 12 → length tickers ≡ 12
-      → Upto ticked-by off (watches_in before) i (watches_in tickers) → watch_in (get_or tickers i d) ≡ watch_of (watches_in before) i
+      → Upto ticked_by off (watches_in before) i (watches_in tickers) → watch_in (get_or tickers i d) ≡ watch_of (watches_in before) i
   not_yet tickers i d below long inv =
-      sym (watch_at tickers i d (omega arith)) ∙ upto_here ticked-by off (watches_in before) i (watches_in tickers) below inv
+      sym (watch_at tickers i d (omega arith)) ∙ upto_here ticked_by off (watches_in before) i (watches_in tickers) below inv
 
   pub ticked_more : (tickers : List Ticker) (i : ℕ) (d new : Ticker) (e : FibreSettings) (level : Bool) → i < 12 → length tickers ≡ 12
-      → length settings.fibres ≡ 12 → Upto ticked-by off (watches_in before) i (watches_in tickers)
+      → length settings.fibres ≡ 12 → Upto ticked_by off (watches_in before) i (watches_in tickers)
       → level ≡ is_one (get_or samples i 0) (get_or settings.fibres i e).threshold
       → new.state ≡ next (get_or settings.fibres i e).enable (get_or tickers i d).state level
       → new.header ≡ heard (get_or settings.fibres i e).enable (get_or tickers i d).state level (get_or tickers i d).header
-      → Upto ticked-by off (watches_in before) (i + 1) (watches_in (set tickers i new))
+      → Upto ticked_by off (watches_in before) (i + 1) (watches_in (set tickers i new))
   ticked_more tickers i d new e level below long longs inv at state header =
       let fibre : get_or settings.fibres i e ≡ of_fibre settings i = get_or_default settings.fibres i e no_fibre (omega arith) in
       let was : watch_in (get_or tickers i d) ≡ watch_of (watches_in before) i = not_yet tickers i d below long inv in
-      let with-level : watch_in new
+      let with_level : watch_in new
       ≡ record {
         state = next (get_or settings.fibres i e).enable (get_or tickers i d).state (is_one (get_or samples i 0) (get_or settings.fibres i e).threshold);
         header = heard (get_or settings.fibres i e).enable (get_or tickers i d).state (is_one (get_or samples i 0) (get_or settings.fibres i e).threshold) (get_or tickers i d).header;
@@ -57,37 +57,37 @@ module _ (settings : CardSettings) (before : List Ticker) (samples : List ℕ) w
       (state ∙ ap (next (get_or settings.fibres i e).enable (get_or tickers i d).state) at)
       (header ∙ ap (λ (l : Bool). heard (get_or settings.fibres i e).enable (get_or tickers i d).state l (get_or tickers i d).header) at)
       in
-      let here : watch_in new ≡ ticked-by i =
-      with-level ∙ ap₂ (λ (x : FibreSettings) (w : Watch). ticked x (get_or samples i 0) w) fibre was
+      let here : watch_in new ≡ ticked_by i =
+      with_level ∙ ap₂ (λ (x : FibreSettings) (w : Watch). ticked x (get_or samples i 0) w) fibre was
       in
-      subst (Upto ticked-by off (watches_in before) (i + 1)) (sym (watches_set tickers i new))
-      (upto_more ticked-by off (watches_in before) i (watches_in tickers) (watch_in new) below (length_watches tickers ∙ long) inv here)
+      subst (Upto ticked_by off (watches_in before) (i + 1)) (sym (watches_set tickers i new))
+      (upto_more ticked_by off (watches_in before) i (watches_in tickers) (watch_in new) below (length_watches tickers ∙ long) inv here)
 
   pub pulsed_more : (tickers : List Ticker) (ps start : List Bool) (i : ℕ) (d : Ticker) (e : FibreSettings) (level p : Bool) → i < 12 → length tickers ≡ 12
-      → length ps ≡ 12 → length settings.fibres ≡ 12 → Upto ticked-by off (watches_in before) i (watches_in tickers)
-      → Upto pulsed-by false start i ps
+      → length ps ≡ 12 → length settings.fibres ≡ 12 → Upto ticked_by off (watches_in before) i (watches_in tickers)
+      → Upto pulsed_by false start i ps
       → level ≡ is_one (get_or samples i 0) (get_or settings.fibres i e).threshold
       → p ≡ pulses (get_or settings.fibres i e).enable (get_or tickers i d).state level
-      → Upto pulsed-by false start (i + 1) (set ps i p)
-  pulsed_more tickers ps start i d e level p below long many longs inv before-p at pulse =
+      → Upto pulsed_by false start (i + 1) (set ps i p)
+  pulsed_more tickers ps start i d e level p below long many longs inv before_p at pulse =
       let fibre : get_or settings.fibres i e ≡ of_fibre settings i = get_or_default settings.fibres i e no_fibre (omega arith) in
       let was : watch_in (get_or tickers i d) ≡ watch_of (watches_in before) i = not_yet tickers i d below long inv in
-      let here : p ≡ pulsed-by i =
+      let here : p ≡ pulsed_by i =
       pulse
       ∙ (ap (pulses (get_or settings.fibres i e).enable (get_or tickers i d).state) at
       ∙ ap₂ (λ (x : FibreSettings) (w : Watch). pulses x.enable w.state (is_one (get_or samples i 0) x.threshold)) fibre was)
       in
-      upto_more pulsed-by false start i ps p below many before-p here
+      upto_more pulsed_by false start i ps p below many before_p here
 
-  pub ticked_all : (tickers : List Ticker) (i : ℕ) → 12 ≤ i → length tickers ≡ 12 → Upto ticked-by off (watches_in before) i (watches_in tickers)
+  pub ticked_all : (tickers : List Ticker) (i : ℕ) → 12 ≤ i → length tickers ≡ 12 → Upto ticked_by off (watches_in before) i (watches_in tickers)
       → watches_in tickers ≡ watches_after settings (watches_in before) samples
   unfolding watches_after
-  ticked_all tickers i all long inv = upto_all ticked-by off (watches_in before) i (watches_in tickers) all (length_watches tickers ∙ long) inv
+  ticked_all tickers i all long inv = upto_all ticked_by off (watches_in before) i (watches_in tickers) all (length_watches tickers ∙ long) inv
 
-  pub pulsed_all : (ps start : List Bool) (i : ℕ) → 12 ≤ i → length ps ≡ 12 → Upto pulsed-by false start i ps
+  pub pulsed_all : (ps start : List Bool) (i : ℕ) → 12 ≤ i → length ps ≡ 12 → Upto pulsed_by false start i ps
       → ps ≡ pulses_with settings (watches_in before) samples
   unfolding pulses_with
-  pulsed_all ps start i all long inv = upto_all pulsed-by false start i ps all long inv
+  pulsed_all ps start i all long inv = upto_all pulsed_by false start i ps all long inv
 
 module _ (settings : CardSettings) (tickers : List Ticker) (in_step : List Bool) where
   -- how a fibre stands

@@ -4,7 +4,7 @@ use Rattle.std.specs.Prelude.{◌≡◌, ℕ, ◌<◌, List, [], length, slice_i
 use Rattle.card_model.specs.Fibres.{for_fibres}
 
 -- a column was written at a place of each row, and nothing else
-pub record Column-set (before : List (List ℕ)) (place : ℕ) (samples : List ℕ) (after : List (List ℕ)) : Type 0 where
+pub record ColumnSet (before : List (List ℕ)) (place : ℕ) (samples : List ℕ) (after : List (List ℕ)) : Type 0 where
   pub twelve : length samples ≡ 12
   pub inside : (f : ℕ) → f < 12 → place < length (slice_index_or before f [])
   pub rows : after ≡ for_fibres (λ f. slice_set (slice_index_or before f []) place (slice_index samples f))

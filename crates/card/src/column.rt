@@ -2,7 +2,7 @@
 ghost use Rattle.std.specs.Prelude.{◌≡◌, ◌+◌, ◌<◌, ◌≤◌, [], ◌∷◌, ◌++◌, if◌then◌else◌, None, nat_le};
 ghost use Rattle.card_model.specs.Clock.{too_large, first_sample};
 ghost use Rattle.card.specs.Abstraction.{rows_in, columns_before};
-ghost use Rattle.card.specs.Columns.{Column-set};
+ghost use Rattle.card.specs.Columns.{ColumnSet};
 
 use crate::row::Row;
 use strips::Sample;
@@ -24,7 +24,7 @@ pub(crate) fn capture_samples(rows: &mut [Row; 12], position: usize, samples: &[
 // Writes a sample to a place of each fibre.
 fn set_column(rows: &mut [Row; 12], place: usize, samples: &[u16; 12])
     requires { (place < 256) × (too_large samples.now ≡ None) }
-    ensures { Column-set (rows_in rows.old) place samples.now (rows_in rows.new) }
+    ensures { ColumnSet (rows_in rows.old) place samples.now (rows_in rows.new) }
 {
     for f in 0..FIBRES {
         match Sample::new(samples[f]) {

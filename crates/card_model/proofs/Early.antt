@@ -23,7 +23,7 @@ use Rattle.card_model.specs.Clock.{Outcome, pulses_with, sought, within, row, re
 use Rattle.card_model.specs.Step.{unchanged, loaded, slip_given, fetching, giving_back, resetting, step}
 use Rattle.card_model.specs.Runs.{state_after, answer_after, completed, moved, modes_waiting, columns_with, columns_by, records_by, records_waiting}
 use Rattle.card_model.specs.Laws.{IsKept, NoEarlyLoss}
-use Rattle.card_model.proofs.Fibres.{getD_for, lowest_none}
+use Rattle.card_model.proofs.Fibres.{get_or_for, lowest_none}
 use Rattle.card_model.specs.Waiting.{stacked}
 use Rattle.card_model.proofs.Readout.{Holds}
 use Rattle.card_model.proofs.Sound.{run_holds}
@@ -41,7 +41,7 @@ module _ (formed : RecordsOfTheLayout) (meaning : Meaning) (bounded : Bounded me
   lengths_of_kind settings columns k f below =
       subst⁻¹
       (λ (r : List ℕ). (shortest (kind_in settings.mode) ≤ length r) × (length r ≤ longest (kind_in settings.mode)))
-      (getD_for (λ g. fibre_record meaning g (of_fibre settings g) settings.mode (row columns g)) f [] below)
+      (get_or_for (λ g. fibre_record meaning g (of_fibre settings g) settings.mode (row columns g)) f [] below)
       (lengths_in_range (kind_in settings.mode) (content_in meaning f (of_fibre settings f) settings.mode (row columns f))
       (formed meaning f (of_fibre settings f) settings.mode (row columns f) bounded below (row_length columns f k) (row_small columns f below k)))
 

@@ -97,9 +97,9 @@ pub length_for : {X : Type 0} (g : ℕ → X) → length (for_fibres g) ≡ 12
 unfolding for_fibres
 length_for g = length-map-range_with_len g 0 12
 
-pub getD_for : {X : Type 0} (g : ℕ → X) (f : ℕ) (d : X) → f < 12 → get_or (for_fibres g) f d ≡ g f
+pub get_or_for : {X : Type 0} (g : ℕ → X) (f : ℕ) (d : X) → f < 12 → get_or (for_fibres g) f d ≡ g f
 unfolding for_fibres
-getD_for g f d h = get_or-map-range_with_len g 0 12 f f d h (omega arith)
+get_or_for g f d h = get_or-map-range_with_len g 0 12 f f d h (omega arith)
 
 pub for_same : {X : Type 0} (g h : ℕ → X) → ((f : ℕ) → f < 12 → g f ≡ h f) → for_fibres g ≡ for_fibres h
 unfolding for_fibres

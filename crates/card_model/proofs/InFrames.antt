@@ -14,7 +14,7 @@ use Rattle.card_model.specs.Clock.{Outcome, level_in, ticked, watches_after, pul
 use Rattle.card_model.specs.Step.{loaded, step}
 use Rattle.card_model.specs.Runs.{state_after}
 use Rattle.card_model.specs.InStep.{InFrame, StepsStay}
-use Rattle.card_model.proofs.Fibres.{getD_for}
+use Rattle.card_model.proofs.Fibres.{get_or_for}
 use Rattle.card_model.proofs.Ways.{watches_then, Ways, each_way}
 
 never : false ≡ true → ⊥
@@ -43,7 +43,7 @@ frame_goes_on e s l p is on =
 ticker_then : (s : CardState) (samples : List ℕ) (f : ℕ) → f < 12
     → watch_of (watches_then s samples) f ≡ ticked (of_fibre s.settings f) (get_or samples f 0) (watch_of s.watches f)
 unfolding watches_after
-ticker_then s samples f h = getD_for (λ g. ticked (of_fibre s.settings g) (get_or samples g 0) (watch_of s.watches g)) f off h
+ticker_then s samples f h = get_or_for (λ g. ticked (of_fibre s.settings g) (get_or samples g 0) (watch_of s.watches g)) f off h
 
 begun_in_frame : (s : CardState) (samples : List ℕ) (t : CardState) (b : Bool) → t.watches ≡ watches_then s samples
     → InFrame t (begun (pulses_with s.settings s.watches samples) b)
@@ -53,7 +53,7 @@ begun_in_frame s samples t true e =
     λ f h in_step.
     let level = level_in (of_fibre s.settings f) (get_or samples f 0) in
     let pulsed : pulses (of_fibre s.settings f).enable (watch_of s.watches f).state level ≡ true =
-    sym (getD_for (λ g. pulses (of_fibre s.settings g).enable (watch_of s.watches g).state (level_in (of_fibre s.settings g) (get_or samples g 0))) f false h)
+    sym (get_or_for (λ g. pulses (of_fibre s.settings g).enable (watch_of s.watches g).state (level_in (of_fibre s.settings g) (get_or samples g 0))) f false h)
     ∙ in_step
     in
     ap (λ (ws : List Watch). (watch_of ws f).state) e

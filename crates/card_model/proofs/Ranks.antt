@@ -58,10 +58,10 @@ decoded_fits word = by (refusal word)
     by None = setting_fits word
 
 -- what holds of all and of the default holds wherever one looks
-getD_fits : {X : Type 0} (P : X → Type 0) (xs : List X) (i : ℕ) (d : X) → P d → AllByRecursion P xs → P (get_or xs i d)
-getD_fits P [] i d h a = h
-getD_fits P (x ∷ xs) zero d h a = a.0
-getD_fits P (x ∷ xs) (suc i) d h a = getD_fits P xs i d h a.1
+get_or_fits : {X : Type 0} (P : X → Type 0) (xs : List X) (i : ℕ) (d : X) → P d → AllByRecursion P xs → P (get_or xs i d)
+get_or_fits P [] i d h a = h
+get_or_fits P (x ∷ xs) zero d h a = a.0
+get_or_fits P (x ∷ xs) (suc i) d h a = get_or_fits P xs i d h a.1
 
 all_replicate : {X : Type 0} (P : X → Type 0) (n : ℕ) (x : X) → P x → AllByRecursion P (replicate n x)
 all_replicate P zero x h = tt
@@ -73,7 +73,7 @@ AllFit card = AllByRecursion RanksFit card.fibres
 
 pub fibre_fits : (card : CardSettings) (f : ℕ) → AllFit card → RanksFit (of_fibre card f)
 unfolding no_fibre
-fibre_fits card f a = getD_fits RanksFit card.fibres f no_fibre (lit< tt, lit< tt) a
+fibre_fits card f a = get_or_fits RanksFit card.fibres f no_fibre (lit< tt, lit< tt) a
 
 part_fits : (side : Side) (rank : ℕ) (p : Pair ℕ) → rank < 256 → (p.left < 256) × (p.right < 256)
     → ((with_part side rank p).left < 256) × ((with_part side rank p).right < 256)

@@ -9,7 +9,7 @@ use Rattle.card_model.specs.Calls.{too_many}
 use Rattle.card_model.specs.State.{Readout, empty}
 use Rattle.card_model.specs.Readout.{record_of, lengths_of, event_length, most_events, exceeds, lacking, loss, with_event, oldest_lengths, taken_from, left_in, oldest_bytes, without_event, with_slip}
 use Rattle.card_model.specs.Waiting.{stacked, Because}
-use Rattle.card_model.proofs.Fibres.{none_lowest, some_lowest, getD_for, total_same, total_add, total_zero, in_order_same}
+use Rattle.card_model.proofs.Fibres.{none_lowest, some_lowest, get_or_for, total_same, total_add, total_zero, in_order_same}
 
 -- a readout of a capacity in which the events es wait
 pub record Holds (room : ℕ) (es : List (List (List ℕ))) (r : Readout) : Type 0 where
@@ -26,7 +26,7 @@ size e = event_length (lengths_of e)
 
 pub length_in : (e : List (List ℕ)) (f : ℕ) → f < 12 → get_or (lengths_of e) f 0 ≡ length (record_of e f)
 unfolding lengths_of
-length_in e f h = getD_for (λ g. length (record_of e g)) f 0 h
+length_in e f h = get_or_for (λ g. length (record_of e g)) f 0 h
 
 pub size_is : (e : List (List ℕ)) → size e ≡ total (λ f. length (record_of e f))
 size_is e = total_same (λ f. get_or (lengths_of e) f 0) (λ f. length (record_of e f)) (length_in e)
@@ -76,7 +76,7 @@ module _ (room : ℕ) (es : List (List (List ℕ))) (r : Readout) (h : Holds roo
       record {
         each =
             λ f below.
-            getD_for (λ g. left_in (get_or (oldest_lengths r) g 0) (waiting r.lists g)) f [] below
+            get_or_for (λ g. left_in (get_or (oldest_lengths r) g 0) (waiting r.lists g)) f [] below
             ∙ (ap₂ left_in (oldest_length room es r h f below) (h.each f below ∙ front es f)
             ∙ left_front (record_of (oldest_of es) f) (stacked (drop 1 es) f));
         lengths = ap (λ (q : List (List ℕ)). drop 1 q) h.lengths ∙ dropped es;
@@ -98,7 +98,7 @@ module _ (room : ℕ) (es : List (List (List ℕ))) (r : Readout) (h : Holds roo
       record {
         each =
             λ f below.
-            getD_for (λ g. waiting r.lists g ++ record_of e g) f [] below
+            get_or_for (λ g. waiting r.lists g ++ record_of e g) f [] below
             ∙ (ap (λ (xs : List ℕ). xs ++ record_of e f) (h.each f below) ∙ flat_map_more (λ x. record_of x f) [] es e);
         lengths = ap (λ (q : List (List ℕ)). q ++ lengths_of e ∷ []) h.lengths ∙ sym (map_push lengths_of es e);
         capacity = h.capacity;
@@ -137,7 +137,7 @@ module _ (room : ℕ) (es : List (List (List ℕ))) (r : Readout) (h : Holds roo
         omega (arith, h.capacity, h.within f below),
         λ g lower.
             let inside : g < 12 = omega arith in
-            let its-level : level_of r.lists g ≡ length (stacked es g) = ap length (h.each g inside) in
+            let its_level : level_of r.lists g ≡ length (stacked es g) = ap length (h.each g inside) in
             let free : length (record_of e g) ≤ r.room - level_of r.lists g =
             ltb-false (r.room - level_of r.lists g) (length (record_of e g)) (first.no_lower g (omega arith) lower)
             in

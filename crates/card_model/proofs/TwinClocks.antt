@@ -116,34 +116,34 @@ module _ (shifts : ShiftsRecords) (meaning : Meaning) (law : ShiftLaw meaning) (
       (same_loss e d (as_long j e d a)) (kept_or_lost ws j e d a (loss s.readout e))
 
   -- the event that a Clock completes, out of two captures
-  abbrev Completed-alike : Option Capture → Option Capture → List ℕ → List ℕ → Type 0
-  Completed-alike o q xs ys =
+  abbrev CompletedAlike : Option Capture → Option Capture → List ℕ → List ℕ → Type 0
+  CompletedAlike o q xs ys =
       EventAlike (constants_in s.settings.mode c) (records_of meaning s.settings (columns_with o xs)) (records_of meaning s.settings (columns_with q ys))
 
   in_capture_alike : (ws : List Watch) (a b : Capture) (xs ys : List ℕ) → CapturesAlike (Some a) (Some b) → (last : Bool)
       → (last ≡ true → ColumnsAlike s.settings c (columns_with (Some a) xs) (columns_with (Some b) ys) s.settings.mode)
-      → LeadsAlike k (Completed-alike (Some a) (Some b) xs ys) (in_capture last meaning s ws a xs) (in_capture last meaning t ws b ys)
+      → LeadsAlike k (CompletedAlike (Some a) (Some b) xs ys) (in_capture last meaning s ws a xs) (in_capture last meaning t ws b ys)
   in_capture_alike ws a b xs ys same true alike =
       completing_alike ws (constants_in s.settings.mode c) (records_of meaning s.settings (columns_with (Some a) xs))
       (records_of meaning s.settings (columns_with (Some b) ys))
       (records_alike shifts meaning law s.settings fit c (columns_with (Some a) xs) (columns_with (Some b) ys) (alike refl))
-  in_capture_alike ws a b xs ys same false alike = within_alike (Completed-alike (Some a) (Some b) xs ys) ws a b xs ys same
+  in_capture_alike ws a b xs ys same false alike = within_alike (CompletedAlike (Some a) (Some b) xs ys) ws a b xs ys same
 
   module _ (xs ys : List ℕ)
       (levels : (f : ℕ) → f < 12 → judged (of_fibre s.settings f).enable (watch_of s.watches f).state ≡ true
       → level_in (of_fibre s.settings f) (get_or ys f 0) ≡ level_in (of_fibre s.settings f) (get_or xs f 0)) where
     clocked_alike : (o q : Option Capture) → CapturesAlike o q
         → (at_last o ≡ true → ColumnsAlike s.settings c (columns_with o xs) (columns_with q ys) s.settings.mode)
-        → LeadsAlike k (Completed-alike o q xs ys) (clocked meaning s xs o) (clocked meaning t ys q)
+        → LeadsAlike k (CompletedAlike o q xs ys) (clocked meaning s xs o) (clocked meaning t ys q)
     clocked_alike None None a alike =
         let ws = watches_after s.settings s.watches xs in
         let in_step = pulses_with s.settings s.watches xs in
         subst⁻¹
         (λ (v : List Watch).
-        LeadsAlike k (Completed-alike None None xs ys) (sought s ws in_step) (sought t v (pulses_with s.settings s.watches ys)))
+        LeadsAlike k (CompletedAlike None None xs ys) (sought s ws in_step) (sought t v (pulses_with s.settings s.watches ys)))
         (same_watches s.settings s.watches xs ys levels)
-        (subst⁻¹ (λ (b : List Bool). LeadsAlike k (Completed-alike None None xs ys) (sought s ws in_step) (sought t ws b))
-        (same_pulses s.settings s.watches xs ys levels) (sought_alike (Completed-alike None None xs ys) ws in_step))
+        (subst⁻¹ (λ (b : List Bool). LeadsAlike k (CompletedAlike None None xs ys) (sought s ws in_step) (sought t ws b))
+        (same_pulses s.settings s.watches xs ys levels) (sought_alike (CompletedAlike None None xs ys) ws in_step))
     clocked_alike None (Some b) a alike = absurd a
     clocked_alike (Some b) None a alike = absurd a
     clocked_alike (Some a) (Some b) same alike =
@@ -151,23 +151,23 @@ module _ (shifts : ShiftsRecords) (meaning : Meaning) (law : ShiftLaw meaning) (
         let last = eqb a.position last_position in
         subst⁻¹
         (λ (v : List Watch).
-        LeadsAlike k (Completed-alike (Some a) (Some b) xs ys) (in_capture last meaning s ws a xs)
+        LeadsAlike k (CompletedAlike (Some a) (Some b) xs ys) (in_capture last meaning s ws a xs)
         (in_capture (eqb b.position last_position) meaning t v b ys))
         (same_watches s.settings s.watches xs ys levels)
         (subst⁻¹
         (λ (n : ℕ).
-        LeadsAlike k (Completed-alike (Some a) (Some b) xs ys) (in_capture last meaning s ws a xs)
+        LeadsAlike k (CompletedAlike (Some a) (Some b) xs ys) (in_capture last meaning s ws a xs)
         (in_capture (eqb n last_position) meaning t ws b ys))
         same.0 (in_capture_alike ws a b xs ys same last alike))
 
   clock_asked_alike : (xs ys : List ℕ) (o : Option ℕ) → too_large xs ≡ o → TwinClock o s t c xs ys
-      → LeadsAlike k (Completed-alike s.capture capture xs ys) (clock_asked o meaning s xs) (clock_asked (too_large ys) meaning t ys)
+      → LeadsAlike k (CompletedAlike s.capture capture xs ys) (clock_asked o meaning s xs) (clock_asked (too_large ys) meaning t ys)
   clock_asked_alike xs ys (Some f) e same =
-      let K = Completed-alike s.capture capture xs ys in
+      let K = CompletedAlike s.capture capture xs ys in
       subst⁻¹ (λ (o : Option ℕ). LeadsAlike k K (refusing s (SampleTooLarge f)) (clock_asked o meaning t ys)) (ap too_large same ∙ e)
       (plain_alike k K s t (refused (SampleTooLarge f)) (record { settings = refl; watches = refl; captures = captures; slips = refl }))
   clock_asked_alike xs ys None e twin =
-      let K = Completed-alike s.capture capture xs ys in
+      let K = CompletedAlike s.capture capture xs ys in
       subst⁻¹ (λ (o : Option ℕ). LeadsAlike k K (clocked meaning s xs s.capture) (clock_asked o meaning t ys)) twin.ten_bits
       (clocked_alike xs ys twin.same_levels s.capture capture captures
       (λ last.
@@ -177,19 +177,19 @@ module _ (shifts : ShiftsRecords) (meaning : Meaning) (law : ShiftLaw meaning) (
       twin.events_alike)))
 
   pub clock_alike : (xs ys : List ℕ) → TwinClock (too_large xs) s t c xs ys
-      → LeadsAlike k (Completed-alike s.capture capture xs ys) (clock_step meaning s xs) (clock_step meaning t ys)
+      → LeadsAlike k (CompletedAlike s.capture capture xs ys) (clock_step meaning s xs) (clock_step meaning t ys)
   unfolding clock_step
   clock_alike xs ys twin = clock_asked_alike xs ys (too_large xs) refl twin
 
   -- ---- any call
 
   -- the event that a call completes
-  abbrev Kept-alike : Call → Call → Type 0
-  Kept-alike x y = EventAlike (constants_in s.settings.mode c) (records_by meaning s x) (records_by meaning t y)
+  abbrev KeptAlike : Call → Call → Type 0
+  KeptAlike x y = EventAlike (constants_in s.settings.mode c) (records_by meaning s x) (records_by meaning t y)
 
   module _ (levels : (f : ℕ) → f < 12 → level_of lists f ≡ level_of s.readout.lists f)
       (oldest : BytesAlike k (oldest_bytes s.readout) (oldest_bytes (differing s capture lists).readout)) where
-    of_clock_alike : (xs : List ℕ) (y : Call) → TwinOfClock s t c xs y → LeadsAlike k (Kept-alike (clock xs) y) (step meaning s (clock xs)) (step meaning t y)
+    of_clock_alike : (xs : List ℕ) (y : Call) → TwinOfClock s t c xs y → LeadsAlike k (KeptAlike (clock xs) y) (step meaning s (clock xs)) (step meaning t y)
     of_clock_alike xs (load word) twin = absurd twin
     of_clock_alike xs (clock ys) twin = clock_alike xs ys twin
     of_clock_alike xs ask twin = absurd twin
@@ -199,18 +199,18 @@ module _ (shifts : ShiftsRecords) (meaning : Meaning) (law : ShiftLaw meaning) (
     of_clock_alike xs reset twin = absurd twin
 
     -- a call with equal arguments
-    equal_alike : (x y : Call) → y ≡ x → LeadsAlike k (Kept-alike x x) (step meaning s x) (step meaning t x)
-        → LeadsAlike k (Kept-alike x y) (step meaning s x) (step meaning t y)
-    equal_alike x y e a = subst⁻¹ (λ (z : Call). LeadsAlike k (Kept-alike x z) (step meaning s x) (step meaning t z)) e a
+    equal_alike : (x y : Call) → y ≡ x → LeadsAlike k (KeptAlike x x) (step meaning s x) (step meaning t x)
+        → LeadsAlike k (KeptAlike x y) (step meaning s x) (step meaning t y)
+    equal_alike x y e a = subst⁻¹ (λ (z : Call). LeadsAlike k (KeptAlike x z) (step meaning s x) (step meaning t z)) e a
 
-    pub call_alike : (x y : Call) → TwinCall s t c x y → LeadsAlike k (Kept-alike x y) (step meaning s x) (step meaning t y)
+    pub call_alike : (x y : Call) → TwinCall s t c x y → LeadsAlike k (KeptAlike x y) (step meaning s x) (step meaning t y)
     call_alike (load word) y twin =
-        equal_alike (load word) y twin (load_alike k (Kept-alike (load word) (load word)) s capture lists captures levels oldest word)
+        equal_alike (load word) y twin (load_alike k (KeptAlike (load word) (load word)) s capture lists captures levels oldest word)
     call_alike (clock xs) y twin = of_clock_alike xs y twin
-    call_alike ask y twin = equal_alike ask y twin (ask_alike k (Kept-alike ask ask) s capture lists captures levels oldest)
+    call_alike ask y twin = equal_alike ask y twin (ask_alike k (KeptAlike ask ask) s capture lists captures levels oldest)
     call_alike (fetch buffer) y twin =
-        equal_alike (fetch buffer) y twin (fetch_alike k (Kept-alike (fetch buffer) (fetch buffer)) s capture lists captures levels oldest buffer)
+        equal_alike (fetch buffer) y twin (fetch_alike k (KeptAlike (fetch buffer) (fetch buffer)) s capture lists captures levels oldest buffer)
     call_alike give_back y twin =
-        equal_alike give_back y twin (give_back_alike k (Kept-alike give_back give_back) s capture lists captures levels oldest)
-    call_alike (level f) y twin = equal_alike (level f) y twin (level_alike k (Kept-alike (level f) (level f)) s capture lists captures levels oldest f)
-    call_alike reset y twin = equal_alike reset y twin (reset_alike k (Kept-alike reset reset) s capture lists captures levels oldest)
+        equal_alike give_back y twin (give_back_alike k (KeptAlike give_back give_back) s capture lists captures levels oldest)
+    call_alike (level f) y twin = equal_alike (level f) y twin (level_alike k (KeptAlike (level f) (level f)) s capture lists captures levels oldest f)
+    call_alike reset y twin = equal_alike reset y twin (reset_alike k (KeptAlike reset reset) s capture lists captures levels oldest)

@@ -23,7 +23,7 @@ use Rattle.card_model.specs.Clock.{row, records_of}
 use Rattle.card_model.specs.Runs.{moved}
 use Rattle.card_model.specs.Laws.{IsKept}
 use Rattle.card_model.specs.Twins.{Constants, BytesAlike, Alike, constants_in}
-use Rattle.card_model.proofs.Fibres.{getD_for, for_same, in_order_same, lowest_same}
+use Rattle.card_model.proofs.Fibres.{get_or_for, for_same, in_order_same, lowest_same}
 use Rattle.card_model.specs.Waiting.{stacked}
 use Rattle.card_model.proofs.Readout.{Holds, oldest_of, gives_oldest}
 
@@ -87,18 +87,18 @@ module _ (shifts : ShiftsRecords) (meaning : Meaning) (law : ShiftLaw meaning) (
   raw_alike : (mode : Mode) (xs ys : List (List ℕ)) → ((f : ℕ) → f < 12 → row ys f ≡ row xs f) → (f : ℕ) → f < 12
       → record_of (all_in mode ys) f ≡ record_of (all_in mode xs) f
   raw_alike mode xs ys same f below =
-      getD_for (one_in mode ys) f [] below
-      ∙ (ap (fibre_record meaning f (of_fibre settings f) mode) (same f below) ∙ sym (getD_for (one_in mode xs) f [] below))
+      get_or_for (one_in mode ys) f [] below
+      ∙ (ap (fibre_record meaning f (of_fibre settings f) mode) (same f below) ∙ sym (get_or_for (one_in mode xs) f [] below))
 
   formed_alike : ((f : ℕ) → RanksFit (of_fibre settings f)) → (c : Constants) (xs ys : List (List ℕ)) (mode : Mode)
       → ColumnsAlike settings c xs ys mode → EventAlike (constants_in mode c) (all_in mode xs) (all_in mode ys)
   formed_alike fit c xs ys ZeroSuppression a = (
     λ f below.
-        subst⁻¹ (λ (r : List ℕ). number_at r 0 ≡ length r) (getD_for (one_in ZeroSuppression xs) f [] below)
+        subst⁻¹ (λ (r : List ℕ). number_at r 0 ≡ length r) (get_or_for (one_in ZeroSuppression xs) f [] below)
         (fibre_opens meaning f (of_fibre settings f) ZeroSuppression (row xs f)),
     λ f below.
-        subst⁻¹ (λ (r : List ℕ). ShiftedRecord (c f) (record_of (all_in ZeroSuppression xs) f) r) (getD_for (one_in ZeroSuppression ys) f [] below)
-        (subst⁻¹ (λ (r : List ℕ). ShiftedRecord (c f) r (one_in ZeroSuppression ys f)) (getD_for (one_in ZeroSuppression xs) f [] below)
+        subst⁻¹ (λ (r : List ℕ). ShiftedRecord (c f) (record_of (all_in ZeroSuppression xs) f) r) (get_or_for (one_in ZeroSuppression ys) f [] below)
+        (subst⁻¹ (λ (r : List ℕ). ShiftedRecord (c f) r (one_in ZeroSuppression ys f)) (get_or_for (one_in ZeroSuppression xs) f [] below)
         (shifts meaning f (of_fibre settings f) (c f) (row xs f) (row ys f) law below (fit f) (a f below))),
   )
   formed_alike fit c xs ys ProcessedRaw a = raw_alike ProcessedRaw xs ys a

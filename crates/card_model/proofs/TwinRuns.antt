@@ -44,11 +44,11 @@ module _ (shifts : ShiftsRecords) (meaning : Meaning) (law : ShiftLaw meaning) (
 
   module _ (cs : ℕ → Constants) where
     -- after a list of calls of each
-    record Runs-alike (xs ys : List Call) : Type 0 where
+    record RunsAlike (xs ys : List Call) : Type 0 where
       cards : CardsAlike (state_after meaning room xs) (state_after meaning room ys)
       events : EventsAlike (constants_waiting meaning room cs xs) (records_waiting meaning room xs) (records_waiting meaning room ys)
 
-    next_alike : (xs ys : List Call) → Runs-alike xs ys → (x y : Call)
+    next_alike : (xs ys : List Call) → RunsAlike xs ys → (x y : Call)
         → TwinCall (state_after meaning room xs) (state_after meaning room ys) (cs (suppressed_in meaning room xs)) x y
         → LeadsAlike (get_or (constants_waiting meaning room cs xs) 0 None)
         (EventAlike (constants_in (state_after meaning room xs).settings.mode (cs (suppressed_in meaning room xs)))
@@ -59,7 +59,7 @@ module _ (shifts : ShiftsRecords) (meaning : Meaning) (law : ShiftLaw meaning) (
         (state_after meaning room xs) (ranks_fit meaning room xs) (run_holds meaning room xs) (cs (suppressed_in meaning room xs)) x y
         (state_after meaning room ys) a.cards (run_holds meaning room ys) twin
 
-    runs_alike : (xs ys : List Call) → Twins meaning room cs xs ys → Runs-alike xs ys
+    runs_alike : (xs ys : List Call) → Twins meaning room cs xs ys → RunsAlike xs ys
     unfolding fresh
     runs_alike [] [] twins =
         record { cards = record { settings = refl; watches = refl; captures = tt; slips = refl }; events = tt }

@@ -97,35 +97,35 @@ is_differing s t a room events = same t.capture t.readout.lists a.settings a.wat
     same c l e1 e2 e3 e4 e5 = cc
 
 -- what a call leads to in both: alike cards and alike answers, and where an event is kept, a fact of it
-pub record LeadsAlike (k : Option Constants) (If-kept : Type 0) (o p : Outcome) : Type 0 where
+pub record LeadsAlike (k : Option Constants) (IfKept : Type 0) (o p : Outcome) : Type 0 where
   pub cards : CardsAlike o.next_card p.next_card
   pub answers : Alike k o.answer p.answer
-  pub kept_alike : IsKept o.answer → If-kept
+  pub kept_alike : IsKept o.answer → IfKept
 
 -- a call with which no event is kept
-pub plain_alike : (k : Option Constants) (If-kept : Type 0) (s t : CardState) (p : Plain) → CardsAlike s t
-    → LeadsAlike k If-kept (unchanged s p) (unchanged t p)
-plain_alike k If-kept s t p a = record { cards = a; answers = refl; kept_alike = λ kept. absurd kept }
+pub plain_alike : (k : Option Constants) (IfKept : Type 0) (s t : CardState) (p : Plain) → CardsAlike s t
+    → LeadsAlike k IfKept (unchanged s p) (unchanged t p)
+plain_alike k IfKept s t p a = record { cards = a; answers = refl; kept_alike = λ kept. absurd kept }
 
 -- ---- the calls but Clock, of a card and of one that differs from it in the capture and in the bytes that wait
 
-module _ (k : Option Constants) (If-kept : Type 0) (s : CardState) (capture : Option Capture) (lists : List (List ℕ))
+module _ (k : Option Constants) (IfKept : Type 0) (s : CardState) (capture : Option Capture) (lists : List (List ℕ))
     (captures : CapturesAlike s.capture capture)
     (levels : (f : ℕ) → f < 12 → level_of lists f ≡ level_of s.readout.lists f)
     (oldest : BytesAlike k (oldest_bytes s.readout) (oldest_bytes (differing s capture lists).readout)) where
   abbrev t : CardState
   t = differing s capture lists
 
-  abbrev Alike-ways : Outcome → Outcome → Type 0
-  Alike-ways o p = LeadsAlike k If-kept o p
+  abbrev AlikeWays : Outcome → Outcome → Type 0
+  AlikeWays o p = LeadsAlike k IfKept o p
 
   cards_alike : CardsAlike s t
   cards_alike = record { settings = refl; watches = refl; captures = captures; slips = refl }
 
-  refused_alike : (p : Plain) → Alike-ways (unchanged s p) (unchanged t p)
-  refused_alike p = plain_alike k If-kept s t p cards_alike
+  refused_alike : (p : Plain) → AlikeWays (unchanged s p) (unchanged t p)
+  refused_alike p = plain_alike k IfKept s t p cards_alike
 
-  loaded_alike : (r : Result Setting Refusal) → Alike-ways (loaded s r) (loaded t r)
+  loaded_alike : (r : Result Setting Refusal) → AlikeWays (loaded s r) (loaded t r)
   loaded_alike (Ok setting) =
       record {
         cards = record { settings = refl; watches = refl; captures = captures; slips = refl };
@@ -134,18 +134,18 @@ module _ (k : Option Constants) (If-kept : Type 0) (s : CardState) (capture : Op
       }
   loaded_alike (Err e) = refused_alike (refused e)
 
-  load_in_alike : (word : ℕ) (o q : Option Capture) → CapturesAlike o q → Alike-ways (load_in o s word) (load_in q t word)
+  load_in_alike : (word : ℕ) (o q : Option Capture) → CapturesAlike o q → AlikeWays (load_in o s word) (load_in q t word)
   load_in_alike word None None a = loaded_alike (decoded word)
   load_in_alike word None (Some d) a = absurd a
   load_in_alike word (Some c) None a = absurd a
   load_in_alike word (Some c) (Some d) a = refused_alike (refused CaptureRunning)
 
-  pub load_alike : (word : ℕ) → Alike-ways (load_step s word) (load_step t word)
+  pub load_alike : (word : ℕ) → AlikeWays (load_step s word) (load_step t word)
   unfolding load_step
   load_alike word = load_in_alike word s.capture capture captures
 
   ask_in_alike : (out : Bool) (events : List (List ℕ))
-      → Alike-ways (cond out (refusing s SlipOut) (ask_waiting events s)) (cond out (refusing t SlipOut) (ask_waiting events t))
+      → AlikeWays (cond out (refusing s SlipOut) (ask_waiting events s)) (cond out (refusing t SlipOut) (ask_waiting events t))
   ask_in_alike true events = refused_alike (refused SlipOut)
   ask_in_alike false [] = refused_alike (refused NothingWaiting)
   ask_in_alike false (lengths ∷ later) =
@@ -155,11 +155,11 @@ module _ (k : Option Constants) (If-kept : Type 0) (s : CardState) (capture : Op
         kept_alike = λ kept. absurd kept;
       }
 
-  pub ask_alike : Alike-ways (ask_step s) (ask_step t)
+  pub ask_alike : AlikeWays (ask_step s) (ask_step t)
   unfolding ask_step
   ask_alike = ask_in_alike s.readout.slip_out s.readout.events
 
-  fetching_alike : Alike-ways (fetching s) (fetching t)
+  fetching_alike : AlikeWays (fetching s) (fetching t)
   unfolding without_event
   fetching_alike =
       record {
@@ -169,20 +169,20 @@ module _ (k : Option Constants) (If-kept : Type 0) (s : CardState) (capture : Op
       }
 
   fetch_in_alike : (long : ℕ) (out enough : Bool)
-      → Alike-ways (cond out (cond enough (fetching s) (refusing s (BufferTooShort long))) (refusing s NoSlipOut))
+      → AlikeWays (cond out (cond enough (fetching s) (refusing s (BufferTooShort long))) (refusing s NoSlipOut))
       (cond out (cond enough (fetching t) (refusing t (BufferTooShort long))) (refusing t NoSlipOut))
   fetch_in_alike long true true = fetching_alike
   fetch_in_alike long true false = refused_alike (refused (BufferTooShort long))
   fetch_in_alike long false enough = refused_alike (refused NoSlipOut)
 
-  pub fetch_alike : (buffer : ℕ) → Alike-ways (fetch_step s buffer) (fetch_step t buffer)
+  pub fetch_alike : (buffer : ℕ) → AlikeWays (fetch_step s buffer) (fetch_step t buffer)
   unfolding fetch_step
   fetch_alike buffer =
       let long = event_length (oldest_lengths s.readout) in
       fetch_in_alike long s.readout.slip_out (leb long buffer)
 
   give_back_in_alike : (out : Bool)
-      → Alike-ways (cond out (giving_back s) (refusing s NoSlipOut)) (cond out (giving_back t) (refusing t NoSlipOut))
+      → AlikeWays (cond out (giving_back s) (refusing s NoSlipOut)) (cond out (giving_back t) (refusing t NoSlipOut))
   give_back_in_alike true =
       record {
         cards = record { settings = refl; watches = refl; captures = captures; slips = refl };
@@ -191,12 +191,12 @@ module _ (k : Option Constants) (If-kept : Type 0) (s : CardState) (capture : Op
       }
   give_back_in_alike false = refused_alike (refused NoSlipOut)
 
-  pub give_back_alike : Alike-ways (give_back_step s) (give_back_step t)
+  pub give_back_alike : AlikeWays (give_back_step s) (give_back_step t)
   unfolding give_back_step
   give_back_alike = give_back_in_alike s.readout.slip_out
 
   level_in_alike : (f : ℕ) (known : Bool) → (known ≡ true → f < 12)
-      → Alike-ways (cond known (unchanged s (level_is (level_of s.readout.lists f))) (refusing s NoSuchFibre))
+      → AlikeWays (cond known (unchanged s (level_is (level_of s.readout.lists f))) (refusing s NoSuchFibre))
       (cond known (unchanged t (level_is (level_of lists f))) (refusing t NoSuchFibre))
   level_in_alike f true below =
       record {
@@ -206,11 +206,11 @@ module _ (k : Option Constants) (If-kept : Type 0) (s : CardState) (capture : Op
       }
   level_in_alike f false below = refused_alike (refused NoSuchFibre)
 
-  pub level_alike : (f : ℕ) → Alike-ways (level_step s f) (level_step t f)
+  pub level_alike : (f : ℕ) → AlikeWays (level_step s f) (level_step t f)
   unfolding level_step
   level_alike f = level_in_alike f (ltb f 12) (ltb-true f 12)
 
-  reset_in_alike : (out : Bool) → Alike-ways (cond out (refusing s SlipOut) (resetting s)) (cond out (refusing t SlipOut) (resetting t))
+  reset_in_alike : (out : Bool) → AlikeWays (cond out (refusing s SlipOut) (resetting s)) (cond out (refusing t SlipOut) (resetting t))
   reset_in_alike true = refused_alike (refused SlipOut)
   reset_in_alike false =
       record {
@@ -219,6 +219,6 @@ module _ (k : Option Constants) (If-kept : Type 0) (s : CardState) (capture : Op
         kept_alike = λ kept. absurd kept;
       }
 
-  pub reset_alike : Alike-ways (reset_step s) (reset_step t)
+  pub reset_alike : AlikeWays (reset_step s) (reset_step t)
   unfolding reset_step
   reset_alike = reset_in_alike s.readout.slip_out

@@ -19,7 +19,7 @@ use Rattle.card_model.specs.Clock.{Outcome, row, records_of, sought, within, com
 use Rattle.card_model.specs.Runs.{state_after, answer_after, completed, moved, columns_with, columns_by, records_by, records_waiting}
 use Rattle.card_model.specs.Laws.{IsKept}
 use Rattle.card_model.specs.Waiting.{Because, answered, LossesHaveReasons, FetchGivesOldest, FetchGivesEvent, ReadoutLaws, EventsOfTheLayout}
-use Rattle.card_model.proofs.Fibres.{length_for, getD_for, in_order_same}
+use Rattle.card_model.proofs.Fibres.{length_for, get_or_for, in_order_same}
 use Rattle.card_model.proofs.Readout.{Holds, size_is, oldest_of, loss_because}
 use Rattle.card_model.proofs.Ways.{none_completed, not_last, Ways, each_way}
 use Rattle.card_model.proofs.Sound.{Tells, run_holds, run_tells}
@@ -66,14 +66,14 @@ pub record Explained (meaning : Meaning) (room : ℕ) (es : List (List (List ℕ
   pub because : Because room es (records_by meaning s c) why
 
 module _ (meaning : Meaning) (room : ℕ) (es : List (List (List ℕ))) (s : CardState) (h : Holds room es s.readout) where
-  abbrev If-explained : Call → Outcome → Type 0
-  If-explained c o = (n : Mode) → completed s c ≡ Some n → Explained meaning room es s c o n
+  abbrev IfExplained : Call → Outcome → Type 0
+  IfExplained c o = (n : Mode) → completed s c ≡ Some n → Explained meaning room es s c o n
 
   same_answer : (e : List (List ℕ)) (l : Option Loss) → completed_answer e l ≡ answered e l
   same_answer e (Some l) = refl
   same_answer e None = ap kept (size_is e)
 
-  reason_ways : Ways meaning s If-explained
+  reason_ways : Ways meaning s IfExplained
   unfolding completing
   reason_ways =
       record {
@@ -102,7 +102,7 @@ pub losses_have_reasons : (meaning : Meaning) (room : ℕ) (h : List Call) (c : 
 losses_have_reasons meaning room h c n e =
     let s = state_after meaning room h in
     let es = records_waiting meaning room h in
-    let x = each_way meaning s (If-explained meaning room es s (run_holds meaning room h)) (reason_ways meaning room es s (run_holds meaning room h)) c n e in
+    let x = each_way meaning s (IfExplained meaning room es s (run_holds meaning room h)) (reason_ways meaning room es s (run_holds meaning room h)) c n e in
     (x.why, x.answer_is, x.because)
 
 pub readout_laws : ReadoutLaws
@@ -157,11 +157,11 @@ module _ (formed : RecordsOfTheLayout) (meaning : Meaning) (bounded : Bounded me
       All-from_get_or (ContentOk (kind_in settings.mode)) (for_fibres (contents settings columns)) (words [])
           (λ f inside.
           let below : f < 12 = omega (arith, length_for (contents settings columns)) in
-          subst⁻¹ (ContentOk (kind_in settings.mode)) (getD_for (contents settings columns) f (words []) below)
+          subst⁻¹ (ContentOk (kind_in settings.mode)) (get_or_for (contents settings columns) f (words []) below)
           (formed meaning f (of_fibre settings f) settings.mode (row columns f) bounded below (row_length columns f k) (row_small columns f below k))),
     ),
     in_order_same (record_of (records_of meaning settings columns)) (λ f. record_bytes (kind_in settings.mode) (contents settings columns f))
-        (λ f below. getD_for (λ g. fibre_record meaning g (of_fibre settings g) settings.mode (row columns g)) f [] below)
+        (λ f below. get_or_for (λ g. fibre_record meaning g (of_fibre settings g) settings.mode (row columns g)) f [] below)
         ∙ joined_map (record_bytes (kind_in settings.mode)) (contents settings columns) (range_with_len 0 12),
   )
 

@@ -17,13 +17,13 @@ belonging_at chip n h = get_or-map-range_with_len (belongs chip) 0 (length chip)
 
 -- a run that ends stands before the runs behind it
 pub ended_before : (at n : ℕ) (rest : List Run) → ended at n rest ≡ ended at n [] ++ rest
-ended_before at n rest = by-test (eqb n 0)
+ended_before at n rest = by_test (eqb n 0)
   where
-    by-test :
+    by_test :
         (b : Bool) →
         cond b rest (record { address = at - n; strips = n } ∷ rest) ≡ cond b [] (record { address = at - n; strips = n } ∷ []) ++ rest
-    by-test true = refl
-    by-test false = refl
+    by_test true = refl
+    by_test false = refl
 
 -- what is left of a chip, where strip n is next and the strips before it that are in an open run number s
 abbrev pub left : List Reached → ℕ → ℕ → ℕ → List Run

@@ -45,21 +45,21 @@ agrees a b b2 c c2 d d2 e = same (by_patterns a b b2 c c2 d d2 e) (is_hit b c c2
 
 agreed : (a b b2 c c2 d d2 e : Bool) → agrees a b b2 c c2 d d2 e ≡ true
 agreed a b b2 c c2 d d2 e =
-    let of-e : Bool → Bool → Bool → Bool → Bool → Bool → Bool → Bool = λ a b b2 c c2 d d2. every (agrees a b b2 c c2 d d2) in
-    let of-d2 : Bool → Bool → Bool → Bool → Bool → Bool → Bool = λ a b b2 c c2 d. every (of-e a b b2 c c2 d) in
-    let of-d : Bool → Bool → Bool → Bool → Bool → Bool = λ a b b2 c c2. every (of-d2 a b b2 c c2) in
-    let of-c2 : Bool → Bool → Bool → Bool → Bool = λ a b b2 c. every (of-d a b b2 c) in
-    let of_c : Bool → Bool → Bool → Bool = λ a b b2. every (of-c2 a b b2) in
-    let of-b2 : Bool → Bool → Bool = λ a b. every (of_c a b) in
-    let of-b : Bool → Bool = λ a. every (of-b2 a) in
-    let all : every of-b ≡ true = refl in
+    let of_e : Bool → Bool → Bool → Bool → Bool → Bool → Bool → Bool = λ a b b2 c c2 d d2. every (agrees a b b2 c c2 d d2) in
+    let of_d2 : Bool → Bool → Bool → Bool → Bool → Bool → Bool = λ a b b2 c c2 d. every (of_e a b b2 c c2 d) in
+    let of_d : Bool → Bool → Bool → Bool → Bool → Bool = λ a b b2 c c2. every (of_d2 a b b2 c c2) in
+    let of_c2 : Bool → Bool → Bool → Bool → Bool = λ a b b2 c. every (of_d a b b2 c) in
+    let of_c : Bool → Bool → Bool → Bool = λ a b b2. every (of_c2 a b b2) in
+    let of_b2 : Bool → Bool → Bool = λ a b. every (of_c a b) in
+    let of_b : Bool → Bool = λ a. every (of_b2 a) in
+    let all : every of_b ≡ true = refl in
     every_at (agrees a b b2 c c2 d d2)
-    (every_at (of-e a b b2 c c2 d)
-    (every_at (of-d2 a b b2 c c2)
-    (every_at (of-d a b b2 c)
-    (every_at (of-c2 a b b2)
+    (every_at (of_e a b b2 c c2 d)
+    (every_at (of_d2 a b b2 c c2)
+    (every_at (of_d a b b2 c)
+    (every_at (of_c2 a b b2)
     (every_at (of_c a b)
-    (every_at (of-b2 a) (every_at of-b all a) b)
+    (every_at (of_b2 a) (every_at of_b all a) b)
     b2) c) c2) d) d2) e
 
 -- the five strips around strip n

@@ -161,11 +161,11 @@ pub cluster_written :
     k ≡ r.strips →
     put_mid (at + 2) k (set (set buffer at r.address) (at + 1) r.strips) copied ≡ over buffer at (cluster_bytes (cluster_on values r))
 cluster_written buffer values at k r copied long ends room e f =
-    let values-long : length (take r.strips (drop r.address values)) ≡ r.strips = values_on values r long ends in
-    let size : length copied ≡ k = ap length e ∙ values-long ∙ sym f in
+    let values_long : length (take r.strips (drop r.address values)) ≡ r.strips = values_on values r long ends in
+    let size : length copied ≡ k = ap length e ∙ values_long ∙ sym f in
     let two : at + 2 ≤ length buffer = omega arith in
     over_part (set (set buffer at r.address) (at + 1) r.strips) (at + 2) k copied size
     ∙ ap (λ xs. over xs (at + 2) copied) (over_two buffer at r.address r.strips two)
     ∙ over_append buffer at (r.address ∷ r.strips ∷ []) copied two
-    ∙ ap (λ n. over buffer at (r.address ∷ n ∷ copied)) (sym values-long)
+    ∙ ap (λ n. over buffer at (r.address ∷ n ∷ copied)) (sym values_long)
     ∙ ap (λ xs. over buffer at (r.address ∷ length (take r.strips (drop r.address values)) ∷ xs)) e

@@ -76,13 +76,13 @@ suppressed_complete :
 suppressed_complete at m cs h =
     let l : ℕ = number_in (m.left % 256) (m.left / 256) in
     let r : ℕ = number_in (m.right % 256) (m.right / 256) in
-    let same-l : l ≡ m.left = number_of_word m.left in
-    let same-r : r ≡ m.right = number_of_word m.right in
-    let small-l : l ≤ 1023 = omega (arith, h.0) in
+    let same_l : l ≡ m.left = number_of_word m.left in
+    let same_r : r ≡ m.right = number_of_word m.right in
+    let small_l : l ≤ 1023 = omega (arith, h.0) in
     let small_r : r ≤ 1023 = omega (arith, h.1) in
     let modes : Pair ℕ = record { left = l; right = r } in
-    let same : modes ≡ m = ap₂ (λ (a b : ℕ). record { left = a; right = b }) same-l same-r in
-    ask_yes (leb l 1023) (records.TooLarge at) _ (suppressed m cs) (le-leb l 1023 small-l)
+    let same : modes ≡ m = ap₂ (λ (a b : ℕ). record { left = a; right = b }) same_l same_r in
+    ask_yes (leb l 1023) (records.TooLarge at) _ (suppressed m cs) (le-leb l 1023 small_l)
     (ask_yes (leb r 1023) (records.TooLarge (at + 2)) _ (suppressed m cs) (le-leb r 1023 small_r)
     (ap
     (λ (a : Result (List Cluster) ClusterFault). err_map records.Cluster (ok_map (suppressed modes) a))

@@ -36,11 +36,11 @@ all_twelve xs w bytes h =
     (sym (code_known r.code k r.head.known))
     ∙ r.tail) in
     let all : RecordsOk k 12 0 xs w = one_more k 11 None 0 xs w r refl bytes others in
-    let is-kind : k ≡ known_kind (kind_of (get_or xs 2 0)) =
+    let is_kind : k ≡ known_kind (kind_of (get_or xs 2 0)) =
     sym (ap (λ (ys : List ℕ). known_kind (kind_of (get_or ys 2 0))) r.bytes ∙ ap known_kind r.head.known) in
     subst
     (λ (k : Kind). EventAt xs (record { kind = k; contents = w.contents }) w.end)
-    is-kind
+    is_kind
     (record {
       event = (all.count, all.content);
       rest = all.rest;

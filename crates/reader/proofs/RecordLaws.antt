@@ -97,7 +97,7 @@ pub one_more :
 one_more k n first at xs w r kind bytes below =
     let size : ℕ = number_in r.low r.high in
     let here : List ℕ = r.low ∷ r.high ∷ r.code ∷ r.rest in
-    let first-ok : RecordOk k size here r.rest r.content =
+    let first_ok : RecordOk k size here r.rest r.content =
     subst
     (λ (k : Kind). RecordOk k size here r.rest r.content)
     kind
@@ -106,21 +106,21 @@ one_more k n first at xs w r kind bytes below =
     let front : List ℕ = record_bytes k r.content in
     let others : List ℕ = flat_map (record_bytes k) r.others.contents in
     let long : length (front ++ others) ≡ length front + length others = length-append front others in
-    let is-size : length front ≡ size = first-ok.size in
+    let is_size : length front ≡ size = first_ok.size in
     let end : at + size + length others ≡ r.others.end = below.end in
     subst
     (λ (w : Walked). RecordsOk k (suc n) at xs w)
     r.both
     (record {
       count = ap suc below.count;
-      content = (first-ok.content, below.content);
+      content = (first_ok.content, below.content);
       rest = below.rest;
       split =
           append_assoc front others below.rest
           ∙ ap (λ (ys : List ℕ). front ++ ys) below.split
-          ∙ first-ok.split
+          ∙ first_ok.split
           ∙ sym r.bytes;
-      end = shift at size (length front) (length others) (length (front ++ others)) r.others.end long is-size end;
+      end = shift at size (length front) (length others) (length (front ++ others)) r.others.end long is_size end;
     })
   where
     shift :

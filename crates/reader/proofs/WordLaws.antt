@@ -34,8 +34,8 @@ words_sound at (x ∷ []) ws even bytes h = absurd (omega arith)
 words_sound at (lo ∷ hi ∷ xs) ws even bytes h =
     let one = ask_ok (leb (number_in lo hi) 1023) (records.TooLarge at) _ ws h in
     let two = ok_map_ok (λ (vs : List ℕ). number_in lo hi ∷ vs) (read_words (at + 2) xs) ws one.1 in
-    let even-below : length xs % 2 ≡ 0 = omega arith in
-    let below = words_sound (at + 2) xs two.0 even-below bytes.1.1 two.1 in
+    let even_below : length xs % 2 ≡ 0 = omega arith in
+    let below = words_sound (at + 2) xs two.0 even_below bytes.1.1 two.1 in
     let count : 2 * suc (length two.0) ≡ suc (suc (length xs)) = omega (arith, below.1) in
     subst
     (λ (ws : List ℕ). (flat_map word ws ≡ lo ∷ hi ∷ xs) × (2 * length ws ≡ length (lo ∷ hi ∷ xs)) × AllByRecursion TenBits ws)

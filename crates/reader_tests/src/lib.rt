@@ -1,6 +1,6 @@
+// Tests of the reader: damaged events, what an accepted event answers, and stored runs.
 #![tactic(auto)]
 
-// Tests of the reader: damaged events, what an accepted event answers, and stored runs.
 #[cfg(test)]
 mod answers;
 #[cfg(test)]

@@ -1,6 +1,6 @@
 -- What the common-mode rules mean: rank, mean and fixed, and the shift law.
 -- Assumes nothing.
-use Rattle.std.specs.Prelude.{◌≡◌, ℕ, ◌+◌, ◌/◌, ◌<◌, ◌≤◌, min, max, Bool, cond, ◌&&◌, ltb, leb, List, [], ◌∷◌, length, ℤ, pos, ◌+ℤ◌, sum, count_by, nat_le, nat_lt, slice_index}
+use Rattle.std.specs.Prelude.{◌≡◌, ℕ, ◌+◌, ◌/◌, ◌<◌, ◌≤◌, min, max, Bool, cond, ◌&&◌, List, [], ◌∷◌, length, ℤ, pos, ◌+ℤ◌, sum, count_by, nat_le, nat_lt, slice_index}
 use Rattle.std.specs.List.{AllZip, ContainsAt, AllByRecursion}
 
 -- a rule's meaning: a number for a chip, a rank setting and a list of values
@@ -16,11 +16,11 @@ pub record InRange (chip : ℕ) (vs : List ℕ) : Type 0 where
 
 -- how many values lie below x
 abbrev pub below : ℕ → List ℕ → ℕ
-below x vs = count_by (λ v. ltb v x) vs
+below x vs = count_by (λ v. nat_lt v x) vs
 
 -- how many values lie at or below x
 abbrev pub at_or_below : ℕ → List ℕ → ℕ
-at_or_below x vs = count_by (λ v. leb v x) vs
+at_or_below x vs = count_by (λ v. nat_le v x) vs
 
 -- x has position p among the values: fewer than p of them lie below it, and at least p at or below it
 pub record HasPosition (p x : ℕ) (vs : List ℕ) : Type 0 where

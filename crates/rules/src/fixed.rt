@@ -1,6 +1,6 @@
 // A common mode that is set by hand.
 ghost use Rattle.rules.specs.Rules.{fixed};
-ghost use Rattle.std.proofs.Common.{rules};
+ghost use Rattle.rules.specs.FixedNumbers.{fixed_bounded};
 
 use crate::range::in_range;
 use crate::rule::Rule;
@@ -15,7 +15,7 @@ pub struct Fixed {
 impl Rule for Fixed {
     ghost meaning = { λ rule. fixed rule.numbers };
 
-    ghost bounded = { Prim.search rules };
+    ghost bounded = { λ rule. fixed_bounded rule.numbers };
 
     fn estimate(&self, chip: usize, _setting: u8, values: &[u16]) -> Result<u16, Refusal> {
         in_range(chip, values)?;

@@ -2,7 +2,6 @@
 ghost use Rattle.std.specs.Prelude.{◌≡◌, ◌/◌, ◌≤◌, length, sum};
 ghost use Rattle.std.specs.List.{AllByRecursion};
 ghost use Rattle.rules.specs.Rules.{mean};
-ghost use Rattle.std.proofs.Common.{rules};
 ghost use Rattle.rules.specs.Averages.{mean_bounded};
 
 use crate::laws::mean_stands;
@@ -16,7 +15,7 @@ pub struct Mean;
 impl Rule for Mean {
     ghost meaning = { λ _. mean };
 
-    ghost bounded = { Prim.search (rules, mean_bounded) };
+    ghost bounded = { λ _. mean_bounded };
 
     fn estimate(&self, chip: usize, _setting: u8, values: &[u16]) -> Result<u16, Refusal> {
         in_range(chip, values)?;

@@ -3,7 +3,6 @@ ghost use Rattle.std.specs.Prelude.{◌≡◌, ◌/◌, ◌%◌, ◌<◌, ◌≤
 ghost use Rattle.std.specs.List.{AllByRecursion};
 ghost use Rattle.rules.specs.Bins.{Tallies, tops, bottoms};
 ghost use Rattle.rules.specs.Rules.{rank, rank_position, value_at};
-ghost use Rattle.std.proofs.Common.{rules};
 ghost use Rattle.rules.specs.Positions.{rank_bounded};
 
 use crate::laws::rank_stands;
@@ -21,7 +20,7 @@ pub struct Rank;
 impl Rule for Rank {
     ghost meaning = { λ _. rank };
 
-    ghost bounded = { Prim.search (rules, rank_bounded) };
+    ghost bounded = { λ _. rank_bounded };
 
     fn estimate(&self, chip: usize, setting: u8, values: &[u16]) -> Result<u16, Refusal> {
         in_range(chip, values)?;

@@ -11,7 +11,7 @@ use Rattle.settings.specs.Words.{decoded, setting_of, mode_setting, tick_setting
 
 -- one question: if it is answered no, its refusal; else what follows
 abbrev pub ask : Bool → Refusal → Result Setting Refusal → Result Setting Refusal
-ask answer no-with more = cond answer more (Err no-with)
+ask answer no_with more = cond answer more (Err no_with)
 
 abbrev outcome : Option Refusal → Setting → Result Setting Refusal
 outcome o s = elim o [ Some e ↦ Err e | None ↦ Ok s ]

@@ -2,7 +2,7 @@
 //
 // A word has 32 bits. The top four are its kind, 1 to 5; kinds 2 to 5 have the fibre in bits 27 to 24.
 ghost use Rattle.std.specs.Prelude.{◌≡◌, ◌+◌, ◌*◌, ◌^◌, ◌<◌, ◌≤◌, false, IfOk, Ok, MatchResult};
-ghost use Rattle.settings.specs.Fields.{bits as bits_of, flag as flag-of, kind};
+ghost use Rattle.settings.specs.Fields.{bits as bits_of, flag as flag_of, kind};
 ghost use Rattle.settings.specs.Words.{decoded, enable_from, side_from, word_of};
 ghost use Rattle.settings.specs.Order.{in_order};
 ghost use Rattle.terms.specs.declared.refusal.Refusal.TheVariants.{ThresholdOrder};
@@ -23,7 +23,7 @@ fn bits(word: u32, high: u32, low: u32) -> u32
 // The bit of a word at one place.
 fn flag(word: u32, place: u32) -> bool
     requires { place < 32 }
-    ensures { result ≡ flag-of place word }
+    ensures { result ≡ flag_of place word }
 {
     bits(word, place, place) == 1
 }

@@ -163,7 +163,7 @@ module _ (ix ix' : Index) (cells cells' : ℕ → ℕ) (f : ℕ) (bytes : List �
           let room = room_for.1 in
           ap cells' (same_place g k) ∙ old (place ix g k) (λ j m e.
           let two = places_apart ix g f k (level_at ix f + j) (omega arith) (omega arith) e in
-          let as-f : level_at ix g ≡ level_at ix f = ap (level_at ix) two.0 in
+          let as_f : level_at ix g ≡ level_at ix f = ap (level_at ix) two.0 in
           omega (arith, two.1))
 
       there : (g : ℕ) → g < 12 → g ≢ f → ring ix' cells' g ≡ ring ix cells g

@@ -80,8 +80,8 @@ number_at samples k d v h e = e ∙ sym (get_or-map (λ (y : Sample). y.value) s
 
 pub numbers_are : (samples : List Sample) (row : List ℕ) → length samples ≡ 256 → length row ≡ 256
     → ((k : ℕ) → k < 256 → get_or row k 0 ≡ get_or (numbers samples) k 0) → row ≡ numbers samples
-numbers_are samples row long row-long each =
-    fill_by_all (λ k. get_or (numbers samples) k 0) row 256 0 row-long each
+numbers_are samples row long row_long each =
+    fill_by_all (λ k. get_or (numbers samples) k 0) row 256 0 row_long each
     ∙ sym (fill_by_all (λ k. get_or (numbers samples) k 0) (numbers samples) 256 0 (length-map samples (λ (y : Sample). y.value) ∙ long) (λ k h. refl))
 
 -- the strips that count are among the 256
@@ -136,16 +136,16 @@ module _ (fibre : FibreSettings) (samples flats : List ℕ) (is : flats ≡ map 
       → content ≡ suppressed m (map (cluster_on values) runs)
       → content ≡ suppressed_by fibre (common_modes meaning f fibre samples) samples
   unfolding suppressed_by
-  formed meaning f m values reached runs content left right vs rs found is-content =
-      let values-then = vs ∙ values_are m in
-      let Reached-then = rs ∙ reached_are m in
+  formed meaning f m values reached runs content left right vs rs found is_content =
+      let values_then = vs ∙ values_are m in
+      let ReachedThen = rs ∙ reached_are m in
       let l = mode_is meaning f m.left Left left in
       let r = mode_is meaning f m.right Right right in
       let modes = pair_is m (common_mode meaning f fibre samples Left) (common_mode meaning f fibre samples Right) l r in
       let here : content ≡ suppressed_by fibre m samples =
-      is-content
-      ∙ (ap (λ (xs : List ℕ). suppressed m (map (cluster_on xs) runs)) values-then
-      ∙ ap (λ (xs : List Run). suppressed m (map (cluster_on (map (reduced_value fibre m samples) strips)) xs)) (found ∙ ap cluster_runs Reached-then))
+      is_content
+      ∙ (ap (λ (xs : List ℕ). suppressed m (map (cluster_on xs) runs)) values_then
+      ∙ ap (λ (xs : List Run). suppressed m (map (cluster_on (map (reduced_value fibre m samples) strips)) xs)) (found ∙ ap cluster_runs ReachedThen))
       in
       here ∙ ap (λ (p : Pair ℕ). suppressed_by fibre p samples) modes
 

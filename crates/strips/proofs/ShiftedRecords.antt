@@ -144,12 +144,12 @@ module _ (fibre : FibreSettings) (c : Side → ℤ) (xs ys : List ℕ) (sh : Shi
         let ks : List ℕ = counted_strips fibre side in
         let one : List ℕ = map (flat_value fibre xs) ks in
         let other : List ℕ = map (flat_value fibre ys) ks in
-        let one-long : length one ≡ length ks = length-map ks (flat_value fibre xs) in
-        let other-long : length other ≡ length ks = length-map ks (flat_value fibre ys) in
+        let one_long : length one ≡ length ks = length-map ks (flat_value fibre xs) in
+        let other_long : length other ≡ length ks = length-map ks (flat_value fibre ys) in
         let most = counted_most fibre side in
         estimated_shifts (meaning (chip_number f side) (part fibre.ranks side)) one other (c side)
-        (other-long ∙ sym one-long)
-        (λ z. none_shifts side (sym one-long ∙ z))
+        (other_long ∙ sym one_long)
+        (λ z. none_shifts side (sym one_long ∙ z))
         (λ some. law (chip_number f side) (part fibre.ranks side) one other (c side) (chip_below f side within) (rank_fits fibre side ranks) some
         (omega arith) (one_small side) (other_small side) (chip_shifts side))
 
@@ -158,11 +158,11 @@ module _ (fibre : FibreSettings) (c : Side → ℤ) (xs ys : List ℕ) (sh : Shi
     modes_shift Right = mode_shifts Right
 
     -- each strip keeps its reduced value
-    strip-stays :
+    strip_stays :
         (s : ℕ) →
         s < 256 →
         reduced_value fibre (common_modes meaning f fibre ys) ys s ≡ reduced_value fibre (common_modes meaning f fibre xs) xs s
-    strip-stays s h =
+    strip_stays s h =
         reduced_stays (counts fibre s)
         (part (common_modes meaning f fibre xs) (side_of s)) (part (common_modes meaning f fibre ys) (side_of s))
         (flat_value fibre xs s) (flat_value fibre ys s) (c (side_of s))
@@ -221,4 +221,4 @@ shifts_records meaning f fibre c xs ys law within ranks sh =
     suppressed_shift fibre c (common_modes meaning f fibre xs) (common_modes meaning f fibre ys) xs ys
     (mode_shifts fibre c xs ys sh meaning f law within ranks Left)
     (mode_shifts fibre c xs ys sh meaning f law within ranks Right)
-    (strip-stays fibre c xs ys sh meaning f law within ranks)
+    (strip_stays fibre c xs ys sh meaning f law within ranks)

@@ -42,12 +42,12 @@ half_again h xs i v b d k l p q = packed_again 64 (status_word h) xs i v b d k l
 
 -- ---- the words of a half are its digits
 
-getD_digits : (k n p : ℕ) → p < k → get_or (digits 64 k n) p 0 ≡ sixth n p
-getD_digits zero n p h = absurd (omega arith)
-getD_digits (suc k) n zero h = ap (λ (m : ℕ). m % 64) (sym (div-one n))
-getD_digits (suc k) n (suc p) h =
+get_or_digits : (k n p : ℕ) → p < k → get_or (digits 64 k n) p 0 ≡ sixth n p
+get_or_digits zero n p h = absurd (omega arith)
+get_or_digits (suc k) n zero h = ap (λ (m : ℕ). m % 64) (sym (div-one n))
+get_or_digits (suc k) n (suc p) h =
     let up : 6 + 6 * p ≡ 6 * suc p = omega arith in
-    getD_digits k (n / 64) p (omega arith)
+    get_or_digits k (n / 64) p (omega arith)
     ∙ ap (λ (m : ℕ). m % 64) (shr-shr n 6 (6 * p))
     ∙ ap (λ (m : ℕ). n / 2 ^ m % 64) up
 
@@ -56,7 +56,7 @@ length_digits zero n = refl
 length_digits (suc k) n = ap suc (length_digits k (n / 64))
 
 six_digits : (n : ℕ) → digits 64 6 n ≡ map (sixth n) (range_with_len 0 6)
-six_digits n = fill_by_all (sixth n) (digits 64 6 n) 6 0 (length_digits 6 n) (λ p h. getD_digits 6 n p h)
+six_digits n = fill_by_all (sixth n) (digits 64 6 n) 6 0 (length_digits 6 n) (λ p h. get_or_digits 6 n p h)
 
 -- ---- all of them
 

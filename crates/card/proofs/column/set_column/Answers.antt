@@ -1,11 +1,11 @@
 use Rattle.std.proofs.Common.{◌∙◌, arith}
 use Rattle.std.proofs.lemmas.List.{length-set}
 use Rattle.card.proofs.Fibres.{upto_none, not_too_large}
-use Rattle.card.proofs.Columns.{set-row, set_more, set_all}
+use Rattle.card.proofs.Columns.{set_row, set_more, set_all}
 use Rattle.card.proofs.column.set_column.Goals as goal
 
 pub loop-f-init : goal.loop-f-init
-loop-f-init c = (omega arith, upto_none (set-row c.args.rows.now c.args.place c.args.samples.now) _ _)
+loop-f-init c = (omega arith, upto_none (set_row c.args.rows.now c.args.place c.args.samples.now) _ _)
 
 pub unreachable-requires : goal.unreachable-requires
 unreachable-requires c =

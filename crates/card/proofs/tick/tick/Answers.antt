@@ -3,15 +3,15 @@ use Rattle.std.proofs.lemmas.List.{length-set}
 use Rattle.card_model.specs.State.{off}
 use Rattle.card.specs.Abstraction.{watches_in}
 use Rattle.card.proofs.Fibres.{upto_none}
-use Rattle.card.proofs.Ticking.{ticked-by, pulsed-by, ticked_more, pulsed_more, ticked_all, pulsed_all}
+use Rattle.card.proofs.Ticking.{ticked_by, pulsed_by, ticked_more, pulsed_more, ticked_all, pulsed_all}
 use Rattle.card.proofs.tick.tick.Goals as goal
 
 pub loop-f-init : goal.loop-f-init
 loop-f-init c = (
   omega arith,
   refl,
-  upto_none (ticked-by c.args.settings.now c.args.tickers.now c.args.samples.now) off (watches_in c.args.tickers.now),
-  upto_none (pulsed-by c.args.settings.now c.args.tickers.now c.args.samples.now) false (replicate 12 false),
+  upto_none (ticked_by c.args.settings.now c.args.tickers.now c.args.samples.now) off (watches_in c.args.tickers.now),
+  upto_none (pulsed_by c.args.settings.now c.args.tickers.now c.args.samples.now) false (replicate 12 false),
 )
 
 pub loop-f-preserved : goal.loop-f-preserved
