@@ -1,6 +1,6 @@
 // How the fibres stand.
 ghost use Rattle.std.specs.Prelude.{◌≡◌, ℕ, ◌<◌, true, false, slice_index_or};
-ghost use Rattle.card_model.specs.Clock.{standings as standings-of};
+ghost use Rattle.card_model.specs.Clock.{standings as standings_of};
 ghost use Rattle.card.specs.Abstraction.{watch_in, watches_in, standing_as};
 
 use settings::CardSettings;
@@ -14,7 +14,7 @@ pub(crate) fn standings(
     tickers: &[Ticker; 12],
     in_step: &[bool; 12],
 ) -> [Standing; 12]
-    ensures { result ≡ standings-of settings.now (watches_in tickers.now) in_step.now }
+    ensures { result ≡ standings_of settings.now (watches_in tickers.now) in_step.now }
 {
     let mut fibres = [standing(settings.fibres[0].enable, &tickers[0], in_step[0]); 12];
     for f in 0..FIBRES {

@@ -1,8 +1,8 @@
 // One of the common-mode rules, chosen as a program runs.
 ghost use Rattle.chosen.specs.Rule.{chosen};
-ghost use Rattle.std.proofs.Common.{arith};
 ghost use Rattle.rules.specs.Positions.{rank_bounded};
 ghost use Rattle.rules.specs.Averages.{mean_bounded};
+ghost use Rattle.rules.specs.FixedNumbers.{fixed_bounded};
 ghost use Rattle.chosen.specs.declared.rule.ChosenRule.TheVariants.{Rank, Mean, Fixed};
 
 use rules::{Fixed, Mean, Rank, Rule};
@@ -18,11 +18,7 @@ pub enum ChosenRule {
 impl Rule for ChosenRule {
     ghost meaning = { chosen };
 
-    ghost bounded = { elim [
-      | Rank ↦ λ chip setting vs h. rank_bounded chip setting vs h
-      | Mean ↦ λ chip setting vs h. mean_bounded chip setting vs h
-      | Fixed f ↦ λ chip setting vs h. omega arith
-    ] };
+    ghost bounded = { elim [ Rank ↦ rank_bounded | Mean ↦ mean_bounded | Fixed f ↦ fixed_bounded f.numbers ] };
 
     fn estimate(&self, chip: usize, setting: u8, values: &[u16]) -> Result<u16, Refusal> {
         match self {

@@ -1,6 +1,6 @@
 // Ask: a slip for the oldest event.
 ghost use Rattle.std.specs.Prelude.{◌≡◌, false, IfOk};
-ghost use Rattle.card_model.specs.Calls.{ask as the-ask};
+ghost use Rattle.card_model.specs.Calls.{ask as the_ask};
 ghost use Rattle.card.specs.Abstraction.{state_of};
 ghost use Rattle.card.specs.CardLaws.{LawsAfter};
 ghost use Rattle.card.specs.Steps.{Stepped, said_ask};
@@ -15,10 +15,10 @@ use terms::Refusal;
 impl<R: Rule + Drop, S: Store + Drop> Card<R, S> {
     // Is no slip out? 8. Does an event wait? 9. The slip has the event's length, and is not spent.
     pub fn ask(&mut self) -> Result<Slip, Refusal>
-        ensures step { Stepped (R.Rule.meaning self.old.rule) (state_of self.old.core (S.Store.lists self.old.store) (S.Store.room self.old.store)) the-ask (state_of self.new.core (S.Store.lists self.new.store) (S.Store.room self.new.store)) (said_ask result) }
+        ensures step { Stepped (R.Rule.meaning self.old.rule) (state_of self.old.core (S.Store.lists self.old.store) (S.Store.room self.old.store)) the_ask (state_of self.new.core (S.Store.lists self.new.store) (S.Store.room self.new.store)) (said_ask result) }
         ensures slip { IfOk result (λ s. s.spent ≡ false) }
         ensures rule { self.new.rule ≡ self.old.rule }
-        ensures laws { LawsAfter (R.Rule.meaning self.old.rule) (state_of self.old.core (S.Store.lists self.old.store) (S.Store.room self.old.store)) the-ask }
+        ensures laws { LawsAfter (R.Rule.meaning self.old.rule) (state_of self.old.core (S.Store.lists self.old.store) (S.Store.room self.old.store)) the_ask }
     {
         if self.core.slip_out {
             return Err(Refusal::SlipOut);

@@ -1,6 +1,6 @@
 // Clock: twelve samples, one of each fibre.
 ghost use Rattle.std.specs.Prelude.{◌≡◌, None, ◌==◌};
-ghost use Rattle.card_model.specs.Calls.{clock as the-clock};
+ghost use Rattle.card_model.specs.Calls.{clock as the_clock};
 ghost use Rattle.card_model.specs.Clock.{too_large, last_position, in_capture};
 ghost use Rattle.card.specs.Abstraction.{state_of, watches_in, rows_in, running};
 ghost use Rattle.card.specs.CardLaws.{LawsAfter};
@@ -19,9 +19,9 @@ use terms::Refusal;
 impl<R: Rule + Drop, S: Store + Drop> Card<R, S> {
     // Are all samples up to 1023? 7, with the lowest fibre whose sample is not.
     pub fn clock(&mut self, samples: &[u16; 12]) -> Result<Clocked, Refusal>
-        ensures step { Stepped (R.Rule.meaning self.old.rule) (state_of self.old.core (S.Store.lists self.old.store) (S.Store.room self.old.store)) (the-clock samples.now) (state_of self.new.core (S.Store.lists self.new.store) (S.Store.room self.new.store)) (said_clock result) }
+        ensures step { Stepped (R.Rule.meaning self.old.rule) (state_of self.old.core (S.Store.lists self.old.store) (S.Store.room self.old.store)) (the_clock samples.now) (state_of self.new.core (S.Store.lists self.new.store) (S.Store.room self.new.store)) (said_clock result) }
         ensures rule { self.new.rule ≡ self.old.rule }
-        ensures laws { LawsAfter (R.Rule.meaning self.old.rule) (state_of self.old.core (S.Store.lists self.old.store) (S.Store.room self.old.store)) (the-clock samples.now) }
+        ensures laws { LawsAfter (R.Rule.meaning self.old.rule) (state_of self.old.core (S.Store.lists self.old.store) (S.Store.room self.old.store)) (the_clock samples.now) }
     {
         if let Some(fibre) = too_large(samples) {
             return Err(Refusal::SampleTooLarge(fibre));

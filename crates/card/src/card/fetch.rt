@@ -1,6 +1,6 @@
 // Fetch: the oldest event goes to a buffer, and the slip is spent.
 ghost use Rattle.std.specs.Prelude.{◌≡◌, length};
-ghost use Rattle.card_model.specs.Calls.{fetch as the-fetch};
+ghost use Rattle.card_model.specs.Calls.{fetch as the_fetch};
 ghost use Rattle.card_model.specs.Readout.{oldest_bytes};
 ghost use Rattle.card.specs.Abstraction.{state_of};
 ghost use Rattle.card.specs.Queue.{queued};
@@ -30,11 +30,11 @@ fn oldest(waiting: &Waiting) -> [u16; 12]
 impl<R: Rule + Drop, S: Store + Drop> Card<R, S> {
     // Is a slip out? 10. Is the buffer long enough? 11, with the event's length. A refusal hands the slip back.
     pub fn fetch(&mut self, slip: Slip, buffer: &mut [u8]) -> Result<usize, Refused>
-        ensures step { Stepped (R.Rule.meaning self.old.rule) (state_of self.old.core (S.Store.lists self.old.store) (S.Store.room self.old.store)) (the-fetch (length buffer.old)) (state_of self.new.core (S.Store.lists self.new.store) (S.Store.room self.new.store)) (said_fetch result buffer.new) }
+        ensures step { Stepped (R.Rule.meaning self.old.rule) (state_of self.old.core (S.Store.lists self.old.store) (S.Store.room self.old.store)) (the_fetch (length buffer.old)) (state_of self.new.core (S.Store.lists self.new.store) (S.Store.room self.new.store)) (said_fetch result buffer.new) }
         ensures written { Fetched (oldest_bytes (state_of self.old.core (S.Store.lists self.old.store) (S.Store.room self.old.store)).readout) buffer.old buffer.new result }
         ensures slip { HandedBack slip result }
         ensures rule { self.new.rule ≡ self.old.rule }
-        ensures laws { LawsAfter (R.Rule.meaning self.old.rule) (state_of self.old.core (S.Store.lists self.old.store) (S.Store.room self.old.store)) (the-fetch (length buffer.old)) }
+        ensures laws { LawsAfter (R.Rule.meaning self.old.rule) (state_of self.old.core (S.Store.lists self.old.store) (S.Store.room self.old.store)) (the_fetch (length buffer.old)) }
     {
         if !self.core.slip_out {
             return Err(Refused {

@@ -1,7 +1,7 @@
 // A Clock within a capture that is not its last.
 ghost use Rattle.std.specs.Prelude.{◌≡◌, ℕ, ◌<◌, List, None};
 ghost use Rattle.card_model.specs.Calls.{plain};
-ghost use Rattle.card_model.specs.Clock.{too_large, standings as standings-of, within, within_answer};
+ghost use Rattle.card_model.specs.Clock.{too_large, standings as standings_of, within, within_answer};
 ghost use Rattle.card.specs.Abstraction.{state_of, watches_in, rows_in, running};
 ghost use Rattle.card.specs.Steps.{Leads, said_clocked};
 
@@ -32,7 +32,7 @@ impl Core {
 
     // What a Clock within a capture brings: the synch once the header is in, else nothing.
     fn within(&self, capture: Capture) -> Clocked
-        ensures { said_clocked result ≡ plain (within_answer capture.position (standings-of self.now.settings (watches_in self.now.tickers) capture.in_step)) }
+        ensures { said_clocked result ≡ plain (within_answer capture.position (standings_of self.now.settings (watches_in self.now.tickers) capture.in_step)) }
     {
         if capture.position != SYNCH {
             return Clocked::Quiet;
