@@ -174,7 +174,7 @@ impl Setting {
                 threshold,
             } => {
                 head(2, fibre)
-                    + (u32::from(enable.number()) << 6)
+                    + (u32::from(u8::from(enable)) << 6)
                     + (u32::from(complement) << 5)
                     + u32::from(threshold.value)
             }
@@ -200,7 +200,7 @@ impl Setting {
                     + u32::from(thresholds.thresh1)
             }
             Setting::Rank { fibre, side, rank } => {
-                head(5, fibre) + (u32::from(side.number()) << 16) + u32::from(rank)
+                head(5, fibre) + (u32::from(u8::from(side)) << 16) + u32::from(rank)
             }
         }
     }

@@ -12,19 +12,21 @@ pub enum Enable {
     Both,
 }
 
-impl Enable {
-    // The two bits that stand for it in a setting word: the left chip's, then the right chip's.
-    pub fn number(self) -> u8
-        ensures { result ≡ enable_number self }
-    {
-        match self {
+// The two bits that stand for it in a setting word: the left chip's, then the right chip's.
+impl From<Enable> for u8 {
+    ghost from_gives = { λ enable number. number ≡ enable_number enable };
+
+    fn from(enable: Enable) -> u8 {
+        match enable {
             Enable::Neither => 0,
             Enable::Right => 1,
             Enable::Left => 2,
             Enable::Both => 3,
         }
     }
+}
 
+impl Enable {
     // Whether the chip on a side is enabled.
     pub fn has(self, side: Side) -> bool
         ensures { result ≡ enabled self side }

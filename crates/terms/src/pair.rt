@@ -9,12 +9,12 @@ pub enum Side {
     Right,
 }
 
-impl Side {
-    // 0 for the left chip, 1 for the right one.
-    pub fn number(self) -> u8
-        ensures { result ≡ side_number self }
-    {
-        match self {
+// 0 for the left chip, 1 for the right one.
+impl From<Side> for u8 {
+    ghost from_gives = { λ side number. number ≡ side_number side };
+
+    fn from(side: Side) -> u8 {
+        match side {
             Side::Left => 0,
             Side::Right => 1,
         }
