@@ -30,7 +30,8 @@ pub(crate) fn majority_header(fibres: &[Standing; 12]) -> u8
     let voters = chips(fibres, Question::InStep);
     let mut header = 0;
     for bit in (0..8).rev() {
-        header = 2 * header + majority(chips(fibres, Question::HeaderBit(bit)), voters) as u8;
+        let votes = chips(fibres, Question::HeaderBit(bit));
+        header = 2 * header + u8::from(majority(votes, voters));
     }
     header
 }

@@ -35,5 +35,5 @@ impl FrameHeader {
 fn shift(byte: u8, level: bool) -> u8
     ensures { result ≡ shifted byte level }
 {
-    (byte << 1) + level as u8
+    (byte << 1) + u8::from(level)
 }
