@@ -6,7 +6,8 @@ ghost use Rattle.synch.specs.Vote.{holds, count, chip_bits, chip_word};
 use crate::standing::Standing;
 use terms::Side;
 
-// What is asked of each enabled chip.
+// What is asked of each enabled chip. It is no closure, since the definition of a vote counts by question:
+// the contract would have to say of a closure which question it asks.
 #[derive(Clone, Copy)]
 pub enum Question {
     // Is its fibre in lock?

@@ -1,23 +1,23 @@
 -- A word of kind 3: its fibre, its unused bits, then its fields.
 -- Assumes nothing.
-use Rattle.std.proofs.Common.{sym, ◌∙◌, arith}
+use Rattle.std.proofs.Common.{sym, arith}
 use Rattle.terms.specs.declared.refusal.Refusal.TheVariants.{NoSuchFibre}
 use Rattle.settings.specs.Words.{decoded}
 use Rattle.settings.proofs.Decoding.{refused, pedestal_no_fibre, pedestal_unused, pedestal_taken}
 use Rattle.settings.proofs.Ranges.{within}
-use Rattle.settings.proofs.word.decode_pedestal.Goals as goal
+use Rattle.settings.proofs.word.Word.pedestal_setting.Goals as goal
 
 pub returns-in_err-fibre : goal.returns-in_err-fibre
 returns-in_err-fibre c =
-    refused c.from_residual.result (decoded c.args.word) c.in_err-fibre.field-0.0 NoSuchFibre
-    c.from_residual.ensures.1 c.in_err-fibre.ensures.1
-    (pedestal_no_fibre c.args.word c.requires (omega (arith, c.in_err-fibre.ensures.0)))
+    refused c.from_residual.result (decoded c.args.self.0) c.in_err-fibre.field-0.0 NoSuchFibre
+    c.from_residual.ensures.1 c.in_err-fibre.ensures.refused.1
+    (pedestal_no_fibre c.args.self.0 c.requires c.in_err-fibre.ensures.refused.0)
 
 pub returns-then-bits-ne0 : goal.returns-then-bits-ne0
 returns-then-bits-ne0 c =
-    sym (pedestal_unused c.args.word c.requires (within c.in_ok-fibre.fibre _ (c.in_ok-fibre.ensures ∙ c.bits.ensures)) (omega arith))
+    sym (pedestal_unused c.args.self.0 c.requires (within c.in_ok-fibre.fibre _ c.in_ok-fibre.ensures.taken) (omega arith))
 
 pub returns : goal.returns
 returns c =
-    pedestal_taken c.args.word c.requires (c.in_ok-fibre.ensures ∙ c.bits.ensures) (omega arith)
-    c.bits-3.ensures c.flag.ensures c.bits-4.ensures
+    pedestal_taken c.args.self.0 c.requires c.in_ok-fibre.ensures.taken (omega arith)
+    c.strip.ensures c.flag.ensures c.bits-2.ensures

@@ -1,29 +1,29 @@
 -- A word of kind 5: its fibre, its unused bits, then its fields.
 -- Assumes nothing.
-use Rattle.std.proofs.Common.{sym, ◌∙◌, arith}
+use Rattle.std.proofs.Common.{sym, arith}
 use Rattle.terms.specs.declared.refusal.Refusal.TheVariants.{NoSuchFibre}
 use Rattle.settings.specs.Fields.{fibre_field}
 use Rattle.settings.specs.Words.{decoded}
 use Rattle.settings.proofs.Decoding.{refused, rank_no_fibre, rank_unused_high, rank_unused_low, rank_taken}
 use Rattle.settings.proofs.Ranges.{within}
-use Rattle.settings.proofs.word.decode_rank.Goals as goal
-use Rattle.settings.proofs.word.decode_rank.Goals.{then-bits-ne0-via-then-bits-ne0, then-bits-ne0-via-else-bits-ne0+then-bits-ne0-2}
+use Rattle.settings.proofs.word.Word.rank_setting.Goals as goal
+use Rattle.settings.proofs.word.Word.rank_setting.Goals.{then-bits-ne0-via-then-bits-ne0, then-bits-ne0-via-else-bits-ne0+then-bits-ne0-2}
 
 pub returns-in_err-fibre : goal.returns-in_err-fibre
 returns-in_err-fibre c =
-    refused c.from_residual.result (decoded c.args.word) c.in_err-fibre.field-0.0 NoSuchFibre
-    c.from_residual.ensures.1 c.in_err-fibre.ensures.1
-    (rank_no_fibre c.args.word c.requires (omega (arith, c.in_err-fibre.ensures.0)))
+    refused c.from_residual.result (decoded c.args.self.0) c.in_err-fibre.field-0.0 NoSuchFibre
+    c.from_residual.ensures.1 c.in_err-fibre.ensures.refused.1
+    (rank_no_fibre c.args.self.0 c.requires c.in_err-fibre.ensures.refused.0)
 
 pub returns-then-bits-ne0 : goal.returns-then-bits-ne0
 returns-then-bits-ne0 c =
-    let f = within c.in_ok-fibre.fibre (fibre_field c.args.word) (c.in_ok-fibre.ensures ∙ c.bits.ensures) in
+    let f = within c.in_ok-fibre.fibre (fibre_field c.args.self.0) c.in_ok-fibre.ensures.taken in
     elim c.then-bits-ne0.branch [
-      | then-bits-ne0-via-then-bits-ne0 w ↦ sym (rank_unused_high c.args.word c.requires f (omega (arith, w.if-bits-ne0.true)))
-      | then-bits-ne0-via-else-bits-ne0+then-bits-ne0-2 w ↦ sym (rank_unused_low c.args.word c.requires f (omega (arith, w.if-bits-ne0-2.true, w.bits-else-bits-ne0.ensures)))
+      | then-bits-ne0-via-then-bits-ne0 w ↦ sym (rank_unused_high c.args.self.0 c.requires f (omega (arith, w.if-bits-ne0.true)))
+      | then-bits-ne0-via-else-bits-ne0+then-bits-ne0-2 w ↦ sym (rank_unused_low c.args.self.0 c.requires f (omega (arith, w.if-bits-ne0-2.true, w.bits-else-bits-ne0.ensures)))
     ]
 
 pub returns : goal.returns
 returns c =
-    rank_taken c.args.word c.requires (c.in_ok-fibre.ensures ∙ c.bits.ensures) (omega arith) (omega arith)
-    (rw c.flag.ensures at c.side.ensures) c.bits-3.ensures
+    rank_taken c.args.self.0 c.requires c.in_ok-fibre.ensures.taken (omega arith) (omega arith)
+    c.side.ensures c.bits-2.ensures
