@@ -1,8 +1,8 @@
 -- Numbers side by side in one word.
 -- Assumes nothing.
-use Rattle.std.proofs.Common.{◌≡◌, ℕ, zero, suc, ◌+◌, ◌-◌, ◌*◌, ◌^◌, ◌<◌, ◌≤◌, List, [], ◌∷◌, ◌++◌, Bor, map, length, get_or, drop, sym, refl, ap, ◌∙◌, subst, ap₂, le_of_suc-le-suc, not-suc-le-zero, mul_comm, pow-suc, arith, length-drop, drop-cons}
+use Rattle.std.proofs.Common.{◌≡◌, ℕ, zero, suc, ◌+◌, ◌-◌, ◌*◌, ◌^◌, ◌<◌, ◌≤◌, List, [], ◌∷◌, Bor, map, length, get_or, drop, sym, refl, ap, ◌∙◌, subst, ap₂, le_of_suc-le-suc, not-suc-le-zero, mul_comm, pow-suc, arith, length-drop, drop-cons}
 use mathlib.Core.List.{reverse}
-use Rattle.std.proofs.lemmas.List.{map-append, length-map, reverse-append, reverse-reverse, length-reverse}
+use Rattle.std.proofs.lemmas.List.{length-map, reverse-reverse, length-reverse}
 use native.Mathlib.Nat.{one-le-pow}
 use Rattle.std.proofs.lemmas.Nat.{mul-add-lt, div-mul-add, mod-mul-add}
 use Rattle.synch.specs.Packed.{packed, digits}
@@ -34,12 +34,6 @@ packed_room B f z h n xs i v k l p =
 -- the numbers so far in one word
 abbrev pub so_far : {X : Type 0} → ℕ → (X → ℕ) → List (Bor X) → ℕ
 so_far B f ys = packed B f (reverse (map (λ y. y.now) ys))
-
-pub so_far_more : {X : Type 0} (B : ℕ) (f : X → ℕ) (ys : List (Bor X)) (y : Bor X) (v b : ℕ) → v ≡ so_far B f ys → b ≡ f y.now
-    → B * v + b ≡ so_far B f (ys ++ y ∷ [])
-so_far_more B f ys y v b p q =
-    ap₂ ◌+◌ (mul_comm B v ∙ ap (λ (n : ℕ). n * B) p) q
-    ∙ sym (ap (packed B f) (ap reverse (map-append (λ y. y.now) ys (y ∷ [])) ∙ reverse-append (map (λ y. y.now) ys) (y.now ∷ [])))
 
 pub so_far_lt : {X : Type 0} (B : ℕ) (f : X → ℕ) → 0 < B → ((x : X) → f x < B) → (n : ℕ) (ys : List (Bor X)) (v : ℕ) → length ys ≤ n
     → v ≡ so_far B f ys → v < B ^ n

@@ -17,12 +17,6 @@ votes x side = x.in_step && enabled x.enable side
 abbrev pub bit_of : ℕ → ℕ → ℕ
 bit_of b n = n / 2 ^ b % 2
 
--- the header bit that a question is about
-abbrev pub asked_bit : Question → ℕ
-asked_bit InLock = 0
-asked_bit InStep = 0
-asked_bit (HeaderBit b) = b
-
 -- what a chip answers to a question
 abbrev pub holds : Question → Standing → Side → Bool
 holds InLock x side = x.in_lock && enabled x.enable side

@@ -5,7 +5,7 @@ use Rattle.std.proofs.lemmas.Iterator.Consumers.{YieldsList-turn, YieldsList-end
 use Rattle.std.proofs.lemmas.List.{length-reverse}
 use Rattle.synch.specs.Vote.{chip_word, chip_bits}
 use Rattle.synch.proofs.Counts.{chip_bits_lt, word_room, ones_count}
-use Rattle.synch.proofs.Packed.{so_far_more, so_far_all}
+use Rattle.synch.proofs.Packed.{so_far_all}
 use Rattle.synch.proofs.chips.chips.Goals as goal
 use Rattle.synch.proofs.chips.chips.Goals.{In-Some, In-None}
 
@@ -22,18 +22,10 @@ overflow_mul-word c = omega (arith, room c)
 pub overflow_add-word : goal.overflow_add-word
 overflow_add-word c = omega (arith, room (goal.at.overflow_add-word c).In-Some, chip_bits_lt)
 
-pub loop-fibre-preserved : goal.loop-fibre-preserved
-loop-fibre-preserved c =
-    so_far_more 4 (chip_bits c.args.question) c.loop-fibre.yielded c.in-Some.fibre c.loop-fibre.word c.chip_bits.result
-    c.loop-fibre.invariant c.chip_bits.ensures
-
 all : (c : In-None) → c.loop-fibre.word ≡ chip_word c.args.question c.args.fibres.now
 all c =
     let t = YieldsList-end (YieldsList-from_rev_slice c.args.fibres.now cc) c.loop-fibre.yielded _ c.loop-fibre.yielded_by _ _ c.in-None.is c.next.ensures.steps in
     c.loop-fibre.invariant ∙ so_far_all 4 (chip_bits c.args.question) c.args.fibres.now c.loop-fibre.yielded t.0
-
-pub returns-clause-word : goal.returns-clause-word
-returns-clause-word c = all c
 
 pub returns-clause-counted : goal.returns-clause-counted
 returns-clause-counted c = ap ones (all c) ∙ ones_count c.args.question c.args.fibres.now

@@ -5,7 +5,7 @@ use Rattle.std.proofs.lemmas.List.{length-reverse}
 use Rattle.synch.specs.Packed.{packed}
 use Rattle.synch.specs.Status.{status_word}
 use Rattle.synch.proofs.Halves.{half_room, half_lt}
-use Rattle.synch.proofs.Packed.{so_far_more, so_far_all}
+use Rattle.synch.proofs.Packed.{so_far_all}
 use Rattle.synch.proofs.status.pack.Goals as goal
 use Rattle.synch.proofs.status.pack.Goals.{In-Some, In-None}
 
@@ -22,18 +22,10 @@ overflow_mul-word c = omega (arith, room c)
 pub overflow_add-word : goal.overflow_add-word
 overflow_add-word c = omega (arith, room (goal.at.overflow_add-word c).In-Some)
 
-pub loop-fibre-preserved : goal.loop-fibre-preserved
-loop-fibre-preserved c =
-    so_far_more 64 (status_word c.args.header) c.loop-fibre.yielded c.in-Some.fibre c.loop-fibre.word _
-    c.loop-fibre.invariant (c.from.ensures ∙ c.status_word.ensures)
-
 all : (c : In-None) → c.loop-fibre.word ≡ packed 64 (status_word c.args.header) c.args.fibres.now
 all c =
     let t = YieldsList-end (YieldsList-from_rev_slice c.args.fibres.now cc) c.loop-fibre.yielded _ c.loop-fibre.yielded_by _ _ c.in-None.is c.next.ensures.steps in
     c.loop-fibre.invariant ∙ so_far_all 64 (status_word c.args.header) c.args.fibres.now c.loop-fibre.yielded t.0
-
-pub returns-clause-value : goal.returns-clause-value
-returns-clause-value c = all c
 
 pub returns-clause-bound : goal.returns-clause-bound
 returns-clause-bound c = half_lt c.args.header c.args.fibres.now c.loop-fibre.word c.requires (all c)
