@@ -1,21 +1,16 @@
 -- The ones of a word of chips are the chips that answer yes.
 -- Assumes nothing.
-use Rattle.std.proofs.Common.{◌≡◌, ℕ, ◌+◌, ◌-◌, ◌*◌, ◌/◌, ◌%◌, ◌^◌, ◌<◌, ◌≤◌, Bool, true, false, eqb, ltb, List, [], ◌∷◌, Bor, length, drop, sym, refl, ap, ◌∙◌, ap₂, add_comm, zero-add, arith}
-use Rattle.std.specs.Prelude.{if◌then◌else◌, nat_lt}
-use Rattle.std.proofs.lemmas.Bool.{ltb-false}
-use Rattle.std.proofs.Math.Nat.{zero-div}
-use Rattle.std.proofs.lemmas.Nat.{shr-shr}
-use Rattle.terms.specs.Terms.{part}
-use Rattle.terms.specs.declared.pair.Side.{Side}
+use Rattle.std.proofs.Common.{◌≡◌, ℕ, zero, suc, ◌+◌, ◌-◌, ◌*◌, ◌<◌, ◌≤◌, Bool, true, false, ltb, List, [], ◌∷◌, Bor, length, get_or, drop, sym, refl, ap, ◌∙◌, subst, ap₂, add_comm, arith}
+use native.Mathlib.Bridge.{le_prop}
 use mir.Val.{bool_byte}
 use lib.Count.{ones, ones_cat}
-use Rattle.std.proofs.lemmas.List.FromFn.{get_or-range_with_len}
 use Rattle.terms.specs.declared.pair.Side.TheVariants.{Left, Right}
+use Rattle.synch.specs.declared.bit.Bit.{Bit}
 use Rattle.synch.specs.declared.chips.Question.{Question}
 use Rattle.synch.specs.declared.chips.Question.TheVariants.{InStep, HeaderBit}
 use Rattle.synch.specs.declared.standing.Standing.{Standing}
 use Rattle.synch.specs.Packed.{packed}
-use Rattle.synch.specs.Vote.{votes, holds, one_if, yes_of, count, chip_bits, chip_word, more_than_half, header_bit, bits}
+use Rattle.synch.specs.Vote.{holds, one_if, yes_of, count, chip_bits, chip_word, more_than_half, header_bit, bits}
 use Rattle.synch.proofs.Packed.{packed_again, packed_room, so_far, so_far_lt}
 
 bits_lt : (a b : Bool) → one_if a + 2 * one_if b < 4
@@ -48,25 +43,24 @@ word_room q ys v h p = so_far_lt 4 (chip_bits q) (omega arith) (chip_bits_lt q) 
 
 -- ---- a byte, bit by bit
 
--- a shift past the end of a byte leaves nothing, as the quotient does
-shr_byte : (n b : ℕ) → n < 256 → (if nat_lt b 8 then n / 2 ^ b else 0) ≡ n / 2 ^ b
-shr_byte n b h = at (ltb b 8) refl
-  where
-    at : (t : Bool) → ltb b 8 ≡ t → (if t then n / 2 ^ b else 0) ≡ n / 2 ^ b
-    at true e = refl
-    at false e =
-        let k : b ≡ 8 + (b - 8) = omega (arith, ltb-false b 8 e) in
-        let z : n / 2 ^ 8 ≡ 0 = omega arith in
-        sym (ap (λ (m : ℕ). n / 2 ^ m) k ∙ sym (shr-shr n 8 (b - 8)) ∙ rw z (zero-div (2 ^ (b - 8))))
+-- a bit is known by its place
+same_bit : (a b : Bit) → a.place ≡ b.place → a ≡ b
+same_bit a b e =
+    subst (λ (m : ℕ). (g : m < 8) → a ≡ record { place = m; below = g }) e
+    (λ g i. record { place = a.place; below = le_prop a.below g i }) b.below
 
--- what a chip that votes answers to a header bit, from its byte shifted
-pub bit_held : (q : Question) (b m s r : ℕ) (x : Standing) (side : Side) → q ≡ HeaderBit b → votes x side ≡ true → m < 256
-    → m ≡ part x.header.bytes side → s ≡ b → r ≡ (if nat_lt s 8 then m / 2 ^ s else 0) → eqb (r % 2) 1 ≡ holds q x side
-bit_held q b m s r x side is v h byte at shifted =
-    let e : r ≡ part x.header.bytes side / 2 ^ b = shifted ∙ shr_byte m s h ∙ ap₂ (λ (i j : ℕ). i / 2 ^ j) byte at in
-    rw (is, v, e) refl
+bit_there : (n : ℕ) (b : Bit) → b.place ≡ n → n < 8 → get_or bits n b ≡ b
+bit_there zero b e h = same_bit _ b (sym e)
+bit_there (suc zero) b e h = same_bit _ b (sym e)
+bit_there (suc (suc zero)) b e h = same_bit _ b (sym e)
+bit_there (suc (suc (suc zero))) b e h = same_bit _ b (sym e)
+bit_there (suc (suc (suc (suc zero)))) b e h = same_bit _ b (sym e)
+bit_there (suc (suc (suc (suc (suc zero))))) b e h = same_bit _ b (sym e)
+bit_there (suc (suc (suc (suc (suc (suc zero)))))) b e h = same_bit _ b (sym e)
+bit_there (suc (suc (suc (suc (suc (suc (suc zero))))))) b e h = same_bit _ b (sym e)
+bit_there (suc (suc (suc (suc (suc (suc (suc (suc n)))))))) b e h = absurd (omega arith)
 
-header_bit_lt : (xs : List Standing) (b : ℕ) → header_bit xs b < 2
+header_bit_lt : (xs : List Standing) (b : Bit) → header_bit xs b < 2
 header_bit_lt xs b = at (ltb (count InStep xs) (2 * count (HeaderBit b) xs))
   where
     at : (t : Bool) → one_if t < 2
@@ -85,9 +79,9 @@ pub byte_room : (xs : List Standing) (b v : ℕ) → 0 < b → v ≡ packed 2 (h
 byte_room xs b v h p = packed_room 2 (header_bit xs) (omega arith) (header_bit_lt xs) 7 bits b v (omega arith) h p
 
 -- one more bit of the header, from the words that were counted
-pub byte_again : (xs : List Standing) (b v word voters t : ℕ) → 0 < b → b ≤ 8 → v ≡ packed 2 (header_bit xs) (drop b bits)
-    → ones word ≡ count (HeaderBit (b - 1)) xs → ones voters ≡ count InStep xs → t ≡ one_if (more_than_half word voters)
-    → 2 * v + t ≡ packed 2 (header_bit xs) (drop (b - 1) bits)
-byte_again xs b v word voters t h k p w r q =
-    packed_again 2 (header_bit xs) bits b v t 0 h (omega arith) p
-    (q ∙ ap one_if (ap₂ (λ (m n : ℕ). ltb m (2 * n)) r w) ∙ ap (header_bit xs) (sym (get_or-range_with_len 0 8 (b - 1) 0 (omega arith) ∙ zero-add (b - 1))))
+pub byte_again : (xs : List Standing) (bit : Bit) (b v word voters t : ℕ) → 0 < b → b ≤ 8 → bit.place ≡ b - 1
+    → v ≡ packed 2 (header_bit xs) (drop b bits) → ones word ≡ count (HeaderBit bit) xs → ones voters ≡ count InStep xs
+    → t ≡ one_if (more_than_half word voters) → 2 * v + t ≡ packed 2 (header_bit xs) (drop (b - 1) bits)
+byte_again xs bit b v word voters t h k at p w r q =
+    packed_again 2 (header_bit xs) bits b v t bit h (omega arith) p
+    (q ∙ ap one_if (ap₂ (λ (m n : ℕ). ltb m (2 * n)) r w) ∙ ap (header_bit xs) (sym (bit_there (b - 1) bit at (omega arith))))

@@ -3,6 +3,7 @@
 ghost use Rattle.std.specs.Prelude.{◌≡◌, count_ones};
 ghost use Rattle.synch.specs.Vote.{holds, count, chip_bits, chip_word};
 
+use crate::bit::Bit;
 use crate::standing::Standing;
 use terms::Side;
 
@@ -15,7 +16,7 @@ pub enum Question {
     // Is its fibre in step? Such a chip votes.
     InStep,
     // Does it vote for a 1 as this bit of the header?
-    HeaderBit(u8),
+    HeaderBit(Bit),
 }
 
 // The enabled chips that answer yes.
@@ -46,8 +47,7 @@ fn holds(fibre: &Standing, question: Question, side: Side) -> bool
         Question::InLock => fibre.in_lock && fibre.enable.has(side),
         Question::InStep => fibre.votes(side),
         Question::HeaderBit(bit) => {
-            let byte = *fibre.header.bytes.of(side);
-            fibre.votes(side) && byte.unbounded_shr(u32::from(bit)) % 2 == 1
+            fibre.votes(side) && (fibre.header.bytes.of(side) >> bit.place) % 2 == 1
         }
     }
 }
