@@ -18,7 +18,7 @@ use Rattle.settings.specs.Fields.{bits, flag, kind, fibre_field, mode_field, thr
 use Rattle.settings.specs.Modes.{mode_number}
 use Rattle.settings.specs.Order.{in_order}
 use Rattle.settings.specs.Words.{decoded, enable_from, side_from, mode_from, tick_setting, pedestal_setting, thresholds_setting, rank_setting, threshold_from, pedestal_from}
-use Rattle.settings.proofs.Asked.{ask, decoded_unknown, decoded_mode, decoded_tick, decoded_pedestal, decoded_thresholds, decoded_rank}
+use Rattle.settings.proofs.Asked.{ask, decoded_unknown, decoded_no_fibre, decoded_mode, decoded_tick, decoded_pedestal, decoded_thresholds, decoded_rank}
 use Rattle.settings.proofs.Ranges.{same_fibre, same_threshold, same_pedestal, same_thresholds, within}
 
 -- the exit of a `?`
@@ -46,6 +46,12 @@ no_kind k false e h = refl
 pub unknown : (w : ℕ) → (1 ≤ kind w → kind w ≤ 5 → ⊥) → decoded w ≡ Err UnknownSetting
 unknown w h = decoded_unknown w (no_kind (kind w) (leb 1 (kind w) && leb (kind w) 5) refl h)
 
+-- the exit of a `?` on the fibre of a word of kind k, 2 to 5
+pub fibre_refused :
+    (w k : ℕ) (r : Result Setting Refusal) (y : Refusal) → kind w ≡ k → ((leb 1 k && leb k 5) ≡ true) × (eqb k 1 ≡ false) →
+    IsErrAnd r (λ x. x ≡ y) → (12 ≤ fibre_field w) × (y ≡ NoSuchFibre) → r ≡ decoded w
+fibre_refused w k r y h known exit no_fibre = refused r (decoded w) y NoSuchFibre exit no_fibre.1 (decoded_no_fibre w k h known (le-ltb (fibre_field w) 12 no_fibre.0))
+
 pub mode_unused : (w : ℕ) → kind w ≡ 1 → (bits 27 5 w ≡ 0 → ⊥) → decoded w ≡ Err UnusedBits
 mode_unused w k h = decoded_mode w k ∙ no _ _ _ (set (bits 27 5 w) true h)
 
@@ -69,9 +75,6 @@ mode_taken w m k z is =
     (decoded_mode w k ∙ yes_then _ _ _ _ (zero (bits 27 5 w) true z refl)
     (simp (sym is) (yes_then _ _ _ _ (mode_known m).0 (ap (λ (x : Mode). Ok (settings.Mode x)) (mode_known m).1))))
 
-pub tick_no_fibre : (w : ℕ) → kind w ≡ 2 → 12 ≤ fibre_field w → decoded w ≡ Err NoSuchFibre
-tick_no_fibre w k h = decoded_tick w k ∙ no _ _ _ (le-ltb (fibre_field w) 12 h)
-
 pub tick_unused : (w : ℕ) → kind w ≡ 2 → fibre_field w < 12 → (bits 23 8 w ≡ 0 → ⊥) → decoded w ≡ Err UnusedBits
 tick_unused w k f h =
     decoded_tick w k ∙ yes_then _ _ _ _ (lt-ltb (fibre_field w) 12 f) (no _ _ _ (set (bits 23 8 w) true h))
@@ -86,9 +89,6 @@ tick_taken w {f} {e} {i} {t} k at z p q r =
     let taken : Ok (settings.Tick f e i t) ≡ Ok (tick_setting w) = cc in
     taken ∙ sym (decoded_tick w k ∙ yes_then _ _ _ _ (lt-ltb (fibre_field w) 12 (within f (fibre_field w) at))
     (yes_then _ _ _ _ (zero (bits 23 8 w) true z refl) refl))
-
-pub pedestal_no_fibre : (w : ℕ) → kind w ≡ 3 → 12 ≤ fibre_field w → decoded w ≡ Err NoSuchFibre
-pedestal_no_fibre w k h = decoded_pedestal w k ∙ no _ _ _ (le-ltb (fibre_field w) 12 h)
 
 pub pedestal_unused : (w : ℕ) → kind w ≡ 3 → fibre_field w < 12 → (bits 15 11 w ≡ 0 → ⊥) → decoded w ≡ Err UnusedBits
 pedestal_unused w k f h =
@@ -105,9 +105,6 @@ pedestal_taken w {f} {s} {v} {p} k at z strip valid r =
     taken ∙ sym (decoded_pedestal w k ∙ yes_then _ _ _ _ (lt-ltb (fibre_field w) 12 (within f (fibre_field w) at))
     (yes_then _ _ _ _ (zero (bits 15 11 w) true z refl) refl))
 
-pub thresholds_no_fibre : (w : ℕ) → kind w ≡ 4 → 12 ≤ fibre_field w → decoded w ≡ Err NoSuchFibre
-thresholds_no_fibre w k h = decoded_thresholds w k ∙ no _ _ _ (le-ltb (fibre_field w) 12 h)
-
 pub thresholds_disordered :
     (w : ℕ) → kind w ≡ 4 → fibre_field w < 12 → in_order (thresh1_field w) (thresh2_field w) ≡ false → decoded w ≡ Err ThresholdOrder
 thresholds_disordered w k f h = decoded_thresholds w k ∙ yes_then _ _ _ _ (lt-ltb (fibre_field w) 12 f) (no _ _ _ h)
@@ -123,9 +120,6 @@ thresholds_taken w {f} {s} {t} k at strip p q =
     let ordered : in_order (thresh1_field w) (thresh2_field w) ≡ true = simp (sym p, sym q) t.ordered in
     taken ∙ sym (decoded_thresholds w k ∙ yes_then _ _ _ _ (lt-ltb (fibre_field w) 12 (within f (fibre_field w) at))
     (yes_then _ _ _ _ ordered refl))
-
-pub rank_no_fibre : (w : ℕ) → kind w ≡ 5 → 12 ≤ fibre_field w → decoded w ≡ Err NoSuchFibre
-rank_no_fibre w k h = decoded_rank w k ∙ no _ _ _ (le-ltb (fibre_field w) 12 h)
 
 pub rank_unused_high : (w : ℕ) → kind w ≡ 5 → fibre_field w < 12 → (bits 23 17 w ≡ 0 → ⊥) → decoded w ≡ Err UnusedBits
 rank_unused_high w k f h =

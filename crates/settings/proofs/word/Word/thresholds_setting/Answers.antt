@@ -1,17 +1,15 @@
 -- A word of kind 4: its fibre, then its thresholds.
 -- Assumes nothing.
-use Rattle.std.proofs.Common.{◌∙◌}
-use Rattle.terms.specs.declared.refusal.Refusal.TheVariants.{NoSuchFibre, ThresholdOrder}
+use Rattle.std.proofs.Common.{refl, ◌∙◌}
+use Rattle.terms.specs.declared.refusal.Refusal.TheVariants.{ThresholdOrder}
 use Rattle.settings.specs.Words.{decoded}
-use Rattle.settings.proofs.Decoding.{refused, thresholds_no_fibre, thresholds_disordered, thresholds_taken}
+use Rattle.settings.proofs.Decoding.{refused, fibre_refused, thresholds_disordered, thresholds_taken}
 use Rattle.settings.proofs.Ranges.{within}
 use Rattle.settings.proofs.word.Word.thresholds_setting.Goals as goal
 
 pub returns-in_err-fibre : goal.returns-in_err-fibre
 returns-in_err-fibre c =
-    refused c.from_residual.result (decoded c.args.self.0) c.in_err-fibre.field-0.0 NoSuchFibre
-    c.from_residual.ensures.1 c.in_err-fibre.ensures.refused.1
-    (thresholds_no_fibre c.args.self.0 c.requires c.in_err-fibre.ensures.refused.0)
+    fibre_refused c.args.self.0 4 c.from_residual.result c.in_err-fibre.field-0.0 c.requires (refl, refl) c.from_residual.ensures.1 c.in_err-fibre.ensures.refused
 
 pub returns-in_err-thresholds : goal.returns-in_err-thresholds
 returns-in_err-thresholds c =

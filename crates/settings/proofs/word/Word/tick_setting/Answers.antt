@@ -1,17 +1,13 @@
 -- A word of kind 2: its fibre, its unused bits, then its fields.
 -- Assumes nothing.
-use Rattle.std.proofs.Common.{sym, arith}
-use Rattle.terms.specs.declared.refusal.Refusal.TheVariants.{NoSuchFibre}
-use Rattle.settings.specs.Words.{decoded}
-use Rattle.settings.proofs.Decoding.{refused, tick_no_fibre, tick_unused, tick_taken}
+use Rattle.std.proofs.Common.{refl, sym, arith}
+use Rattle.settings.proofs.Decoding.{fibre_refused, tick_unused, tick_taken}
 use Rattle.settings.proofs.Ranges.{within}
 use Rattle.settings.proofs.word.Word.tick_setting.Goals as goal
 
 pub returns-in_err-fibre : goal.returns-in_err-fibre
 returns-in_err-fibre c =
-    refused c.from_residual.result (decoded c.args.self.0) c.in_err-fibre.field-0.0 NoSuchFibre
-    c.from_residual.ensures.1 c.in_err-fibre.ensures.refused.1
-    (tick_no_fibre c.args.self.0 c.requires c.in_err-fibre.ensures.refused.0)
+    fibre_refused c.args.self.0 2 c.from_residual.result c.in_err-fibre.field-0.0 c.requires (refl, refl) c.from_residual.ensures.1 c.in_err-fibre.ensures.refused
 
 pub returns-then-bits-ne0 : goal.returns-then-bits-ne0
 returns-then-bits-ne0 c =
