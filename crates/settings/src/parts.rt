@@ -5,7 +5,8 @@ ghost use Rattle.terms.specs.declared.refusal.Refusal.TheVariants.{ThresholdOrde
 
 use terms::Refusal;
 
-// The tick threshold T of a fibre, 0 to 31.
+// The tick threshold T of a fibre, 0 to 31. It and a pedestal are types of their own: a common one would need
+// a trait over `u8` and `u16`, and its name would say less.
 #[derive(Clone, Copy)]
 pub struct TickThreshold {
     pub value: u8,

@@ -39,7 +39,8 @@ pub(crate) fn status_words(fibres: &[Standing; 12], header: u8) -> StatusWords
     }
 }
 
-// The status words of at most six fibres, side by side.
+// The status words of at most six fibres, side by side. A loop for all packed words would take what it packs
+// as a closure, with three clauses about it; it is shorter written out.
 fn pack(fibres: &[Standing], header: u8) -> u64
     requires { length fibres.now ≤ 6 }
     ensures value { result ≡ packed 64 (status_word header) fibres.now }
