@@ -32,7 +32,8 @@ impl ChipValues<'_> {
     fn mean(&self) -> u16
         ensures { result ≡ sum self.now.values.now / length self.now.values.now }
     {
+        let length = self.values.len() as u32;
         let total: u32 = self.values.iter().map(|v| u32::from(*v)).sum();
-        (total / self.values.len() as u32) as u16
+        (total / length) as u16
     }
 }

@@ -40,7 +40,8 @@ impl Tally {
         requires some { 0 < position }
         requires enough { position ≤ sum (take 32 self.now.counts) }
         ensures within { result.bin < 32 }
-        ensures found { (ks : List ℕ) → Tallies self.now.counts ks → HasPosition position result.bin ks × (result.before ≡ below result.bin ks) }
+        ensures found { (ks : List ℕ) → Tallies self.now.counts ks → HasPosition position result.bin ks }
+        ensures before { (ks : List ℕ) → Tallies self.now.counts ks → result.before ≡ below result.bin ks }
     {
         let mut before = 0;
         for (bin, count) in self.counts[..LAST].iter().enumerate() {
