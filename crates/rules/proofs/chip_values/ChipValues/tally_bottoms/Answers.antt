@@ -1,6 +1,4 @@
-use Rattle.std.proofs.Common.{get_or, subst}
-use Rattle.std.proofs.lemmas.List.{take_all}
-use Rattle.rules.specs.Bins.{Tallies, bottoms}
+use Rattle.std.proofs.Common.{get_or}
 use Rattle.rules.proofs.Bins.{bottom_taken, bottoms_more, bottoms_same}
 use Rattle.rules.proofs.chip_values.ChipValues.tally_bottoms.Goals as goal
 use Rattle.rules.proofs.chip_values.ChipValues.tally_bottoms.Goals.{in-Some, in_default}
@@ -16,7 +14,3 @@ loop-v-preserved c = elim c.match-bottom_bits.branch [
   | in-Some w ↦ simp w.tally-is (bottoms_more w.take.new.self.counts c.args.self.now.values.now c.loop-v.v-index c.args.bin w.in-Some.bits c.loop-v-test.true w.in-Some.ensures (w.take.ensures _ c.loop-v.invariant))
   | in_default w ↦ simp w.tally-is (bottoms_same c.loop-v.tally.counts c.args.self.now.values.now c.loop-v.v-index c.args.bin c.loop-v-test.true w.in_default.ensures c.loop-v.invariant)
 ]
-
-pub returns : goal.returns
-returns c =
-    subst (λ vs. Tallies c.loop-v.tally.counts (bottoms c.args.bin vs)) (take_all c.loop-v.v-index c.args.self.now.values.now c.loop-v-test.false) c.loop-v.invariant
