@@ -1,12 +1,12 @@
 -- What a tally tells: its counts add up to the numbers of values below each bin, and two tallies find a position.
 -- Assumes nothing.
-use Rattle.std.proofs.Common.{◌≡◌, ℕ, zero, suc, ◌+◌, ◌-◌, ◌*◌, ◌/◌, ◌%◌, ◌<◌, ◌≤◌, Bool, true, false, cond, ◌&&◌, eqb, ltb, List, [], ◌∷◌, ◌++◌, map, length, get_or, take, set, replicate, Some, None, sum, count_by, filter, sym, refl, ap, ◌∙◌, subst, inl, inr, append-nil, add-one, arith}
+use Rattle.std.proofs.Common.{◌≡◌, ℕ, zero, suc, ◌+◌, ◌-◌, ◌*◌, ◌/◌, ◌%◌, ◌<◌, ◌≤◌, Bool, true, false, cond, ◌&&◌, eqb, ltb, List, [], ◌∷◌, ◌++◌, map, length, get_or, take, replicate, Some, None, sum, count_by, filter, sym, refl, ap, ◌∙◌, subst, append-nil, add-one, arith}
 use Rattle.std.specs.List.{AllByRecursion}
 use Rattle.std.proofs.lemmas.List.Elements.{filter_more}
-use Rattle.std.proofs.ByRecursion.{All-get_or, All-map, All-weaker}
-use Rattle.std.proofs.lemmas.List.{length-set, get_or-set_same, get_or-set_other, get_or-replicate, length-map, length-take-le, map_more, map-append}
+use Rattle.std.proofs.ByRecursion.{All-map, All-weaker}
+use Rattle.std.proofs.lemmas.List.{get_or-replicate, length-map, length-take-le, map_more, map-append}
 use Rattle.std.proofs.lemmas.List.Sums.{sum_by_more, sum_by_push, count_by-le-length, length-filter}
-use Rattle.std.proofs.lemmas.Bool.{eq-eqb, ne_eqb, eqb-true, eqb-false, cases_eq, cond-true, cond-false}
+use Rattle.std.proofs.lemmas.Bool.{eq-eqb, ne_eqb, eqb-true, eqb-false, cond-true, cond-false}
 use Rattle.std.proofs.lemmas.Bool.Decides.{nat_tests}
 use Rattle.rules.specs.Rules.{below, HasPosition, value_at}
 use Rattle.rules.specs.Bins.{Tallies, tops, bottoms}
@@ -15,16 +15,6 @@ use Rattle.rules.specs.Counts.{mark, count_cons, count_split, below_more, below_
 
 pub tallies_none : Tallies (replicate 32 0) []
 tallies_none = record { long = refl; each = λ b h. get_or-replicate 32 b 0 0 h }
-
--- one more value, in the bin k
-pub tallies_more : (counts ks : List ℕ) (k : ℕ) → k < 32 → Tallies counts ks → Tallies (set counts k (get_or counts k 0 + 1)) (k ∷ ks)
-tallies_more counts ks k within t = record {
-  long = length-set counts k (get_or counts k 0 + 1) ∙ t.long;
-  each = λ b h. rw (count_cons (λ j. eqb j b) k ks) (elim (cases_eq b k) [
-    | inl e ↦ rw e (get_or-set_same counts k (get_or counts k 0 + 1) 0 (omega (arith, t.long)) ∙ omega (arith, t.each k within, ap mark (eq-eqb k k refl)))
-    | inr ne ↦ get_or-set_other counts k b (get_or counts k 0 + 1) 0 ne ∙ omega (arith, t.each b h, ap mark (ne_eqb k b (λ e. ne (sym e))))
-  ]);
-}
 
 -- the order of the values does not matter
 tallies_last : (counts ks : List ℕ) (k : ℕ) → Tallies counts (k ∷ ks) → Tallies counts (ks ++ k ∷ [])
@@ -38,7 +28,7 @@ tallies_room : (counts ks : List ℕ) (k : ℕ) → k < 32 → Tallies counts ks
 tallies_room counts ks k within t few = omega (arith, t.each k within, count_by-le-length (λ j. eqb j k) ks)
 
 -- the counts of the first bins are the number of values below the next
-tallies_below : (counts ks : List ℕ) (b : ℕ) → b ≤ 32 → Tallies counts ks → sum (take b counts) ≡ below b ks
+pub tallies_below : (counts ks : List ℕ) (b : ℕ) → b ≤ 32 → Tallies counts ks → sum (take b counts) ≡ below b ks
 tallies_below counts ks zero h t = sym (below_zero ks)
 tallies_below counts ks (suc b) h t =
     let rest = tallies_below counts ks b (omega arith) t in
@@ -50,12 +40,11 @@ tallies_all : (counts ks : List ℕ) → Tallies counts ks → AllByRecursion (�
 tallies_all counts ks t all = tallies_below counts ks 32 (omega arith) t ∙ below_all 32 ks all
 
 -- the bin where the counts come to p has the position p among the bins taken
-pub tallies_find : (counts ks : List ℕ) (p b : ℕ) → b < 32 → Tallies counts ks → sum (take b counts) < p → p ≤ sum (take (b + 1) counts)
-    → HasPosition p b ks × (sum (take b counts) ≡ below b ks)
-tallies_find counts ks p b within t fewer enough =
-    let low = tallies_below counts ks b (omega arith) t in
-    let high = tallies_below counts ks (b + 1) (omega arith) t in
-    (record { fewer = omega (arith, low); enough = omega (arith, high, upto_below b ks) }, low)
+pub tallies_find : (counts ks : List ℕ) (p b : ℕ) → b < 32 → Tallies counts ks → sum (take b counts) < p → p ≤ sum (take (b + 1) counts) → HasPosition p b ks
+tallies_find counts ks p b within t fewer enough = record {
+  fewer = omega (arith, tallies_below counts ks b (omega arith) t);
+  enough = omega (arith, tallies_below counts ks (b + 1) (omega arith) t, upto_below b ks);
+}
 
 count_map : (p : ℕ → Bool) (f : ℕ → ℕ) (vs : List ℕ) → count_by p (map f vs) ≡ count_by (λ v. p (f v)) vs
 count_map p f [] = refl
@@ -130,16 +119,6 @@ bits_of v b k e = let (t, same) = some_bits (eqb (v / 32) b) k (v % 32) e in (eq
 no_bits : (t : Bool) (n : ℕ) → None ≡ cond t (Some n) None → t ≡ false
 no_bits true n e = absurd (let z : ◌≡◌ {A = ℕ} 0 1 = cc in omega arith)
 no_bits false n e = refl
-
-tops_room : (counts vs : List ℕ) (i k : ℕ) → i < length vs → length vs ≤ 128 → k < 32 → Tallies counts (tops (take i vs)) → get_or counts k 0 < 128
-tops_room counts vs i k within few small t =
-    tallies_room counts (tops (take i vs)) k small t (omega (arith, length-map (take i vs) (λ v. v / 32), length-take-le i vs (omega arith)))
-
--- what the first tally asks of one more value
-pub top_taken : (counts vs : List ℕ) (i k : ℕ) → i < length vs → length vs ≤ 128 → AllByRecursion (λ v. v ≤ 1023) vs → k ≡ get_or vs i 0 / 32 → Tallies counts (tops (take i vs)) → (k < 32) × (get_or counts k 0 < 128)
-top_taken counts vs i k within few all e t =
-    let small : k < 32 = omega (arith, e, All-get_or (λ v. v ≤ 1023) vs i 0 within all) in
-    (small, tops_room counts vs i k within few small t)
 
 pub tops_more : (counts vs : List ℕ) (i k : ℕ) → i < length vs → k ≡ get_or vs i 0 / 32 → Tallies counts (k ∷ tops (take i vs)) → Tallies counts (tops (take (i + 1) vs))
 tops_more counts vs i k within e t =
