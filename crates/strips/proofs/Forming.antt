@@ -1,10 +1,9 @@
 -- How a fibre's record comes out of its values, step by step.
 -- Assumes nothing.
-use Rattle.std.proofs.Common.{◌≡◌, ℕ, ◌+◌, ◌*◌, ◌<◌, ◌≤◌, Bool, true, false, ◌&&◌, leb, List, [], ◌∷◌, map, length, get_or, set, Result, sym, refl, ap, ◌∙◌, subst, arith}
+use Rattle.std.proofs.Common.{◌≡◌, ℕ, ◌+◌, ◌*◌, ◌<◌, ◌≤◌, Bool, true, false, ◌&&◌, leb, Option, Some, None, List, [], ◌∷◌, map, get_or, Result, sym, refl, ap, ◌∙◌, subst, arith}
+use Rattle.std.specs.Option.{MatchOption, IsSome}
 use Rattle.std.specs.List.{range_with_len, AllByRecursion}
-use Rattle.std.proofs.lemmas.List.FromFn.{get_or-map-range_with_len, fill_by_all}
-use Rattle.std.proofs.lemmas.List.{get_or-map, length-map}
-use Rattle.std.proofs.lemmas.List.Edits.{fill_by_more}
+use Rattle.std.proofs.lemmas.List.FromFn.{get_or-map-range_with_len}
 use Rattle.std.proofs.lemmas.Bool.Decides.{nat_tests}
 use Rattle.terms.specs.declared.refusal.Refusal.{Refusal}
 use Rattle.terms.specs.declared.pair.Pair.{Pair}
@@ -23,8 +22,8 @@ use Rattle.layout.specs.LimitsLemmas.{at_most_from}
 use Rattle.clusters.specs.declared.reached.Reached.{Reached}
 use Rattle.clusters.specs.Clusters.{cluster_runs}
 use Rattle.strips.specs.declared.sample.Sample.{Sample}
-use Rattle.strips.specs.Values.{reduced, reaches}
-use Rattle.strips.specs.Fibre.{strips, side_of, counts, numbers, flat_value, counted_strips, estimated, common_mode, common_modes, reduced_value, reached_by, suppressed_by, kind_in, content_in, fibre_record}
+use Rattle.strips.specs.Values.{reduced}
+use Rattle.strips.specs.Fibre.{strips, side_of, counts, numbers, flat_value, counted_strips, estimated, mode_of_flats, common_mode, common_modes, reduced_value, reduced_values, reached_by, all_reached, suppressed_by, kind_in, content_in, fibre_record}
 use Rattle.strips.proofs.Rows.{all_of_map, all_counting, all_at, all_kept, same_map}
 use Rattle.strips.proofs.FormedRecords.{flat_value_most}
 
@@ -35,54 +34,28 @@ numbers_fit samples = all_of_map TenBits (λ x. x.value) (λ x. x.ten_bits) samp
 pub flats_fit : (fibre : FibreSettings) (samples : List Sample) → AllByRecursion TenBits (map (flat_value fibre (numbers samples)) strips)
 flats_fit fibre samples = all_of_map TenBits (flat_value fibre (numbers samples)) (flat_value_most fibre (numbers samples) (numbers_fit samples)) strips
 
--- so words of them are never turned down
-pub never_above : (xs : List ℕ) → AllByRecursion TenBits xs → at_most 1023 xs ≡ false → ⊥
-never_above xs fit e =
-    let z : true ≡ false = sym (at_most_from 1023 xs (λ k. all_at TenBits xs k fit (omega arith))) ∙ e in
-    let one : Bool → ℕ = λ b. elim b [ true ↦ 1 | false ↦ 0 ] in
-    let contradiction : ◌≡◌ {A = ℕ} 1 0 = ap one z in
-    omega arith
+-- as a test of all of them
+all_most : (xs : List ℕ) → AllByRecursion TenBits xs → at_most 1023 xs ≡ true
+all_most xs fit = at_most_from 1023 xs (λ k. all_at TenBits xs k fit (omega arith))
 
--- one more value of a row that is filled strip by strip
-pub fill_more : {X : Type 0} (f : ℕ → X) (xs : List X) (i : ℕ) (d v : X) → v ≡ f i → i < length xs → ((k : ℕ) → k < i → get_or xs k d ≡ f k)
-    → (k : ℕ) → k < i + 1 → get_or (set xs i v) k d ≡ f k
-fill_more {X} f xs i d v e h below k g = subst (λ (w : X). get_or (set xs i w) k d ≡ f k) (sym e) (fill_by_more f xs i d h below k g)
+pub numbers_most : (samples : List Sample) → at_most 1023 (numbers samples) ≡ true
+numbers_most samples = all_most (numbers samples) (numbers_fit samples)
 
--- the reduced value of a strip out of what the code knows of it
-pub value_is : (fibre : FibreSettings) (m : Pair ℕ) (flats : List ℕ) (s : ℕ) (b : Bool) (side : Side) (mode v : ℕ)
-    → b ≡ counts fibre s → side ≡ side_of s → mode ≡ part m side → v ≡ reduced b mode (get_or flats s 0)
-    → v ≡ reduced (counts fibre s) (part m (side_of s)) (get_or flats s 0)
-value_is fibre m flats s b side mode v eb eside emode ev =
-    ev
-    ∙ (ap (λ (x : Bool). reduced x mode (get_or flats s 0)) eb
-    ∙ ap (λ (x : ℕ). reduced (counts fibre s) x (get_or flats s 0)) (emode ∙ ap (part m) eside))
+pub flats_most : (fibre : FibreSettings) (samples : List Sample) → at_most 1023 (map (flat_value fibre (numbers samples)) strips) ≡ true
+flats_most fibre samples = all_most (map (flat_value fibre (numbers samples)) strips) (flats_fit fibre samples)
 
--- and what it reaches
-pub reached_is : (fibre : FibreSettings) (s : ℕ) (b : Bool) (v w : ℕ) (one two : Bool) → b ≡ counts fibre s → v ≡ w
-    → one ≡ reaches b (get_or fibre.thresh1 s 0) v → two ≡ reaches b (get_or fibre.thresh2 s 0) v
-    → ◌≡◌ {A = Reached} (record { thresh1 = one; thresh2 = two }) (reached_by fibre w s)
-reached_is fibre s b v w one two eb ev e1 e2 =
-    let first : one ≡ reaches (counts fibre s) (get_or fibre.thresh1 s 0) w =
-    e1 ∙ (ap (λ (x : Bool). reaches x (get_or fibre.thresh1 s 0) v) eb ∙ ap (reaches (counts fibre s) (get_or fibre.thresh1 s 0)) ev)
-    in
-    let second : two ≡ reaches (counts fibre s) (get_or fibre.thresh2 s 0) w =
-    e2 ∙ (ap (λ (x : Bool). reaches x (get_or fibre.thresh2 s 0) v) eb ∙ ap (reaches (counts fibre s) (get_or fibre.thresh2 s 0)) ev)
-    in
-    cc
+-- what passes a test is never turned down
+pub taken : {X : Type 0} (r : Option X) (test : Bool) (P : X → Type 0) → MatchOption r (test ≡ false) P → test ≡ true → IsSome r
+taken None test P m e = sym m ∙ e
+taken (Some x) test P m e = refl
+
+-- and is as it says
+pub taken_is : {X : Type 0} (r : Option X) (x : X) (test : Bool) (P : X → Type 0) → MatchOption r (test ≡ false) P → r ≡ Some x → P x
+taken_is r x test P m e = subst (λ o. MatchOption o (test ≡ false) P) e m
 
 pair_is : (m : Pair ℕ) (l r : ℕ) → m.left ≡ l → m.right ≡ r → m ≡ record { left = l; right = r }
 pair_is m l r e f =
     ap {B = Pair ℕ} (λ (x : ℕ). record { left = x; right = m.right }) e ∙ ap {B = Pair ℕ} (λ (y : ℕ). record { left = l; right = y }) f
-
--- a row with the number of every sample is the samples as numbers
-pub number_at : (samples : List Sample) (k : ℕ) (d : Sample) (v : ℕ) → k < length samples → v ≡ (get_or samples k d).value → v ≡ get_or (numbers samples) k 0
-number_at samples k d v h e = e ∙ sym (get_or-map (λ (y : Sample). y.value) samples k d 0 h)
-
-pub numbers_are : (samples : List Sample) (row : List ℕ) → length samples ≡ 256 → length row ≡ 256
-    → ((k : ℕ) → k < 256 → get_or row k 0 ≡ get_or (numbers samples) k 0) → row ≡ numbers samples
-numbers_are samples row long row_long each =
-    fill_by_all (λ k. get_or (numbers samples) k 0) row 256 0 row_long each
-    ∙ sym (fill_by_all (λ k. get_or (numbers samples) k 0) (numbers samples) 256 0 (length-map samples (λ (y : Sample). y.value) ∙ long) (λ k h. refl))
 
 -- the strips that count are among the 256
 chip_below : (side : Side) (k : ℕ) → k < 128 * side_number side + 128 → k < 256
@@ -113,45 +86,44 @@ module _ (fibre : FibreSettings) (samples flats : List ℕ) (is : flats ≡ map 
   unfolding common_mode
   mode_is meaning f mode side e = e ∙ ap (estimated (meaning (chip_number f side) (part fibre.ranks side))) (counted_flats side)
 
-  values_are : (m : Pair ℕ) → map (λ s. reduced (counts fibre s) (part m (side_of s)) (get_or flats s 0)) strips ≡ map (reduced_value fibre m samples) strips
+  values_are : (m : Pair ℕ) → reduced_values fibre m flats ≡ map (reduced_value fibre m samples) strips
   values_are m =
       same_map (λ s. reduced (counts fibre s) (part m (side_of s)) (get_or flats s 0)) (reduced_value fibre m samples) 0 256
       (λ k low high. ap (reduced (counts fibre k) (part m (side_of k))) (flat_at k (omega arith)))
 
   reached_are : (m : Pair ℕ)
-      → map (λ s. reached_by fibre (reduced (counts fibre s) (part m (side_of s)) (get_or flats s 0)) s) strips
-      ≡ map (λ s. reached_by fibre (reduced_value fibre m samples s) s) strips
+      → all_reached fibre (map (reduced_value fibre m samples) strips) ≡ map (λ s. reached_by fibre (reduced_value fibre m samples s) s) strips
   reached_are m =
-      same_map (λ s. reached_by fibre (reduced (counts fibre s) (part m (side_of s)) (get_or flats s 0)) s)
+      same_map (λ s. reached_by fibre (get_or (map (reduced_value fibre m samples) strips) s 0) s)
       (λ s. reached_by fibre (reduced_value fibre m samples s) s) 0 256
-      (λ k low high. ap (λ (v : ℕ). reached_by fibre (reduced (counts fibre k) (part m (side_of k)) v) k) (flat_at k (omega arith)))
+      (λ k low high. ap (λ (v : ℕ). reached_by fibre v k) (get_or-map-range_with_len (reduced_value fibre m samples) 0 256 k k 0 (omega arith) (omega arith)))
 
   -- common modes and clusters, as the definition has them
   pub formed : (meaning : Meaning) (f : ℕ) (m : Pair ℕ) (values : List ℕ) (reached : List Reached) (runs : List Run) (content : Content)
-      → m.left ≡ estimated (meaning (chip_number f Left) (part fibre.ranks Left)) (map (λ s. get_or flats s 0) (counted_strips fibre Left))
-      → m.right ≡ estimated (meaning (chip_number f Right) (part fibre.ranks Right)) (map (λ s. get_or flats s 0) (counted_strips fibre Right))
-      → values ≡ map (λ s. reduced (counts fibre s) (part m (side_of s)) (get_or flats s 0)) strips
-      → reached ≡ map (λ s. reached_by fibre (reduced (counts fibre s) (part m (side_of s)) (get_or flats s 0)) s) strips
+      → m.left ≡ mode_of_flats meaning f fibre flats Left
+      → m.right ≡ mode_of_flats meaning f fibre flats Right
+      → values ≡ reduced_values fibre m flats
+      → reached ≡ all_reached fibre values
       → runs ≡ cluster_runs reached
       → content ≡ suppressed m (map (cluster_on values) runs)
       → content ≡ suppressed_by fibre (common_modes meaning f fibre samples) samples
   unfolding suppressed_by
   formed meaning f m values reached runs content left right vs rs found is_content =
       let values_then = vs ∙ values_are m in
-      let ReachedThen = rs ∙ reached_are m in
+      let reached_then = rs ∙ ap (all_reached fibre) values_then ∙ reached_are m in
       let l = mode_is meaning f m.left Left left in
       let r = mode_is meaning f m.right Right right in
       let modes = pair_is m (common_mode meaning f fibre samples Left) (common_mode meaning f fibre samples Right) l r in
       let here : content ≡ suppressed_by fibre m samples =
       is_content
       ∙ (ap (λ (xs : List ℕ). suppressed m (map (cluster_on xs) runs)) values_then
-      ∙ ap (λ (xs : List Run). suppressed m (map (cluster_on (map (reduced_value fibre m samples) strips)) xs)) (found ∙ ap cluster_runs ReachedThen))
+      ∙ ap (λ (xs : List Run). suppressed m (map (cluster_on (map (reduced_value fibre m samples) strips)) xs)) (found ∙ ap cluster_runs reached_then))
       in
       here ∙ ap (λ (p : Pair ℕ). suppressed_by fibre p samples) modes
 
--- common modes that fit are never turned down
-pub both_fit : (l r : ℕ) → l ≤ 1023 → r ≤ 1023 → (leb l 1023 && leb r 1023) ≡ false → ⊥
-both_fit l r h k e = grind (arith, nat_tests)
+-- common modes that fit pass the test of both
+pub both_fit : (l r : ℕ) → l ≤ 1023 → r ≤ 1023 → (leb l 1023 && leb r 1023) ≡ true
+both_fit l r h k = grind (arith, nat_tests)
 
 -- a record written of a content is the fibre's record where the content is the fibre's
 pub written_as : (meaning : Meaning) (f : ℕ) (fibre : FibreSettings) (mode mode' : Mode) (samples : List ℕ) (content : Content) (before after : List ℕ) (r : Result ℕ Refusal)

@@ -63,6 +63,15 @@ abbrev pub common_modes : Meaning → ℕ → FibreSettings → List ℕ → Pai
 common_modes meaning f fibre samples =
     record { left = common_mode meaning f fibre samples Left; right = common_mode meaning f fibre samples Right }
 
+-- the values of a chip's strips that count, out of those of all strips
+abbrev pub counted_values : FibreSettings → Side → List ℕ → List ℕ
+counted_values fibre side values = map (λ s. slice_index values s) (counted_strips fibre side)
+
+-- the common mode of a chip, out of the flat values of all strips
+abbrev pub mode_of_flats : Meaning → ℕ → FibreSettings → List ℕ → Side → ℕ
+mode_of_flats meaning f fibre flats side =
+    estimated (meaning (chip_number f side) (part fibre.ranks side)) (counted_values fibre side flats)
+
 -- the reduced value of a strip beside the common modes of the fibre
 abbrev pub reduced_value : FibreSettings → Pair ℕ → List ℕ → ℕ → ℕ
 reduced_value fibre m samples s = reduced (counts fibre s) (part m (side_of s)) (flat_value fibre samples s)
@@ -74,6 +83,14 @@ reached_by fibre value s =
       thresh1 = reaches (counts fibre s) (slice_index fibre.thresh1 s) value;
       thresh2 = reaches (counts fibre s) (slice_index fibre.thresh2 s) value;
     }
+
+-- the reduced values of all strips, out of their flat values
+abbrev pub reduced_values : FibreSettings → Pair ℕ → List ℕ → List ℕ
+reduced_values fibre m flats = map (λ s. reduced (counts fibre s) (part m (side_of s)) (slice_index flats s)) strips
+
+-- the thresholds that all strips reach with their reduced values
+abbrev pub all_reached : FibreSettings → List ℕ → List Reached
+all_reached fibre values = map (λ s. reached_by fibre (slice_index values s) s) strips
 
 -- the content of a zero-suppressed record beside the common modes: these, and the clusters with their reduced values
 unfoldable pub suppressed_by : FibreSettings → Pair ℕ → List ℕ → Content

@@ -7,7 +7,7 @@ ghost use Rattle.strips.specs.Fibre.{strips, numbers, flat_value, common_modes, 
 
 use crate::common_mode::common_modes;
 use crate::flat::flat_values;
-use crate::reduced::reduce;
+use crate::reduced::{all_reached, reduced_values};
 use crate::sample::Sample;
 use clusters::finder::find_clusters;
 use layout::{ProcessedRaw, Suppressed, VirginRaw, Words, ZeroSuppressed, write_record};
@@ -47,33 +47,28 @@ fn suppress<R: Rule>(
 {
     let flats = flat_values(settings, samples);
     let modes = common_modes(rule, fibre, settings, &flats);
-    let reduced = reduce(settings, modes, &flats);
-    match Suppressed::new(modes, reduced.values, find_clusters(&reduced.reached)) {
-        Some(content) => content,
-        None => unreachable(),
-    }
+    let values = reduced_values(settings, modes, &flats);
+    let runs = find_clusters(&all_reached(settings, &values));
+    Suppressed::new(modes, values, runs).unwrap()
 }
 
 // The flat values of all strips, in strip order.
 fn flat_words(settings: &FibreSettings, samples: &[Sample; STRIPS]) -> Words
     ensures { words_content result ≡ words (map (flat_value settings.now (numbers samples.now)) strips) }
 {
-    match Words::new(flat_values(settings, samples)) {
-        Some(words) => words,
-        None => unreachable(),
-    }
+    Words::new(flat_values(settings, samples).values).unwrap()
+}
+
+// The samples as numbers, in place order.
+fn sample_numbers(samples: &[Sample; STRIPS]) -> [u16; STRIPS]
+    ensures { result ≡ numbers samples.now }
+{
+    samples.map(|sample| sample.value())
 }
 
 // The samples as they came, in place order.
 fn sample_words(samples: &[Sample; STRIPS]) -> Words
     ensures { words_content result ≡ words (numbers samples.now) }
 {
-    let mut list = [0; STRIPS];
-    for (place, sample) in samples.iter().enumerate() {
-        list[place] = sample.value();
-    }
-    match Words::new(list) {
-        Some(words) => words,
-        None => unreachable(),
-    }
+    Words::new(sample_numbers(samples)).unwrap()
 }
