@@ -43,12 +43,9 @@ fn common_mode<R: Rule>(
     if values.is_empty() {
         return 0;
     }
-    let answer = rule.estimate(
-        fibre.chip(side),
-        *settings.ranks.of(side),
-        values.as_slice(),
-    );
-    answer.unwrap()
+    let chip = fibre.chip(side);
+    let rank = *settings.ranks.of(side);
+    rule.estimate(chip, rank, values.as_slice()).unwrap()
 }
 
 // The common modes of both chips of a fibre.

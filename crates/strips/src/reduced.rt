@@ -55,11 +55,8 @@ pub(crate) fn reduced_values(
     ensures { result ≡ reduced_values settings.now modes flats.now.values }
 {
     array::from_fn(|strip| {
-        reduced_value(
-            counts(settings, strip),
-            *modes.of(side_of(strip)),
-            flats.values[strip],
-        )
+        let mode = *modes.of(side_of(strip));
+        reduced_value(counts(settings, strip), mode, flats.values[strip])
     })
 }
 
