@@ -1,9 +1,11 @@
 -- How a fibre's record comes out of its values, step by step.
 -- Assumes nothing.
-use Rattle.std.proofs.Common.{◌≡◌, ℕ, ◌+◌, ◌*◌, ◌<◌, ◌≤◌, Bool, true, false, ◌&&◌, leb, Option, Some, None, List, [], ◌∷◌, map, get_or, Result, sym, refl, ap, ◌∙◌, subst, arith}
+use Rattle.std.proofs.Common.{◌≡◌, ℕ, ◌+◌, ◌*◌, ◌<◌, ◌≤◌, Bool, true, false, ◌&&◌, leb, Option, Some, None, List, [], ◌∷◌, map, length, get_or, set, Result, sym, refl, ap, ◌∙◌, subst, arith}
 use Rattle.std.specs.Option.{MatchOption, IsSome}
 use Rattle.std.specs.List.{range_with_len, AllByRecursion}
-use Rattle.std.proofs.lemmas.List.FromFn.{get_or-map-range_with_len}
+use Rattle.std.proofs.lemmas.List.FromFn.{get_or-map-range_with_len, fill_by_all}
+use Rattle.std.proofs.lemmas.List.{get_or-map, length-map}
+use Rattle.std.proofs.lemmas.List.Edits.{fill_by_more}
 use Rattle.std.proofs.lemmas.Bool.Decides.{nat_tests}
 use Rattle.terms.specs.declared.refusal.Refusal.{Refusal}
 use Rattle.terms.specs.declared.pair.Pair.{Pair}
@@ -22,7 +24,7 @@ use Rattle.layout.specs.LimitsLemmas.{at_most_from}
 use Rattle.clusters.specs.declared.reached.Reached.{Reached}
 use Rattle.clusters.specs.Clusters.{cluster_runs}
 use Rattle.strips.specs.declared.sample.Sample.{Sample}
-use Rattle.strips.specs.Values.{reduced}
+use Rattle.strips.specs.Values.{reduced, reaches}
 use Rattle.strips.specs.Fibre.{strips, side_of, counts, numbers, flat_value, counted_strips, estimated, mode_of_flats, common_mode, common_modes, reduced_value, reduced_values, reached_by, all_reached, suppressed_by, kind_in, content_in, fibre_record}
 use Rattle.strips.proofs.Rows.{all_of_map, all_counting, all_at, all_kept, same_map}
 use Rattle.strips.proofs.FormedRecords.{flat_value_most}
@@ -53,9 +55,52 @@ taken (Some x) test P m e = refl
 pub taken_is : {X : Type 0} (r : Option X) (x : X) (test : Bool) (P : X → Type 0) → MatchOption r (test ≡ false) P → r ≡ Some x → P x
 taken_is r x test P m e = subst (λ o. MatchOption o (test ≡ false) P) e m
 
+-- one more value of a row that is filled strip by strip
+pub fill_more : {X : Type 0} (f : ℕ → X) (xs : List X) (i : ℕ) (d v : X) → v ≡ f i → i < length xs → ((k : ℕ) → k < i → get_or xs k d ≡ f k)
+    → (k : ℕ) → k < i + 1 → get_or (set xs i v) k d ≡ f k
+fill_more {X} f xs i d v e h below k g = subst (λ (w : X). get_or (set xs i w) k d ≡ f k) (sym e) (fill_by_more f xs i d h below k g)
+
+-- the reduced value of a strip out of what the code knows of it
+pub value_is : (fibre : FibreSettings) (m : Pair ℕ) (flats : List ℕ) (s : ℕ) (b : Bool) (side : Side) (mode v : ℕ)
+    → b ≡ counts fibre s → side ≡ side_of s → mode ≡ part m side → v ≡ reduced b mode (get_or flats s 0)
+    → v ≡ reduced (counts fibre s) (part m (side_of s)) (get_or flats s 0)
+value_is fibre m flats s b side mode v eb eside emode ev =
+    ev
+    ∙ (ap (λ (x : Bool). reduced x mode (get_or flats s 0)) eb
+    ∙ ap (λ (x : ℕ). reduced (counts fibre s) x (get_or flats s 0)) (emode ∙ ap (part m) eside))
+
+-- and what it reaches
+pub reached_is : (fibre : FibreSettings) (s : ℕ) (b : Bool) (v w : ℕ) (one two : Bool) → b ≡ counts fibre s → v ≡ w
+    → one ≡ reaches b (get_or fibre.thresh1 s 0) v → two ≡ reaches b (get_or fibre.thresh2 s 0) v
+    → ◌≡◌ {A = Reached} (record { thresh1 = one; thresh2 = two }) (reached_by fibre w s)
+reached_is fibre s b v w one two eb ev e1 e2 =
+    let first : one ≡ reaches (counts fibre s) (get_or fibre.thresh1 s 0) w =
+    e1 ∙ (ap (λ (x : Bool). reaches x (get_or fibre.thresh1 s 0) v) eb ∙ ap (reaches (counts fibre s) (get_or fibre.thresh1 s 0)) ev)
+    in
+    let second : two ≡ reaches (counts fibre s) (get_or fibre.thresh2 s 0) w =
+    e2 ∙ (ap (λ (x : Bool). reaches x (get_or fibre.thresh2 s 0) v) eb ∙ ap (reaches (counts fibre s) (get_or fibre.thresh2 s 0)) ev)
+    in
+    cc
+
+-- what strips reach with values of their own
+pub reached_of : (fibre : FibreSettings) (f : ℕ → ℕ) → all_reached fibre (map f strips) ≡ map (λ s. reached_by fibre (f s) s) strips
+reached_of fibre f =
+    same_map (λ s. reached_by fibre (get_or (map f strips) s 0) s) (λ s. reached_by fibre (f s) s) 0 256
+    (λ k low high. ap (λ (v : ℕ). reached_by fibre v k) (get_or-map-range_with_len f 0 256 k k 0 (omega arith) (omega arith)))
+
 pair_is : (m : Pair ℕ) (l r : ℕ) → m.left ≡ l → m.right ≡ r → m ≡ record { left = l; right = r }
 pair_is m l r e f =
     ap {B = Pair ℕ} (λ (x : ℕ). record { left = x; right = m.right }) e ∙ ap {B = Pair ℕ} (λ (y : ℕ). record { left = l; right = y }) f
+
+-- a row with the number of every sample is the samples as numbers
+pub number_at : (samples : List Sample) (k : ℕ) (d : Sample) (v : ℕ) → k < length samples → v ≡ (get_or samples k d).value → v ≡ get_or (numbers samples) k 0
+number_at samples k d v h e = e ∙ sym (get_or-map (λ (y : Sample). y.value) samples k d 0 h)
+
+pub numbers_are : (samples : List Sample) (row : List ℕ) → length samples ≡ 256 → length row ≡ 256
+    → ((k : ℕ) → k < 256 → get_or row k 0 ≡ get_or (numbers samples) k 0) → row ≡ numbers samples
+numbers_are samples row long row_long each =
+    fill_by_all (λ k. get_or (numbers samples) k 0) row 256 0 row_long each
+    ∙ sym (fill_by_all (λ k. get_or (numbers samples) k 0) (numbers samples) 256 0 (length-map samples (λ (y : Sample). y.value) ∙ long) (λ k h. refl))
 
 -- the strips that count are among the 256
 chip_below : (side : Side) (k : ℕ) → k < 128 * side_number side + 128 → k < 256
@@ -91,13 +136,6 @@ module _ (fibre : FibreSettings) (samples flats : List ℕ) (is : flats ≡ map 
       same_map (λ s. reduced (counts fibre s) (part m (side_of s)) (get_or flats s 0)) (reduced_value fibre m samples) 0 256
       (λ k low high. ap (reduced (counts fibre k) (part m (side_of k))) (flat_at k (omega arith)))
 
-  reached_are : (m : Pair ℕ)
-      → all_reached fibre (map (reduced_value fibre m samples) strips) ≡ map (λ s. reached_by fibre (reduced_value fibre m samples s) s) strips
-  reached_are m =
-      same_map (λ s. reached_by fibre (get_or (map (reduced_value fibre m samples) strips) s 0) s)
-      (λ s. reached_by fibre (reduced_value fibre m samples s) s) 0 256
-      (λ k low high. ap (λ (v : ℕ). reached_by fibre v k) (get_or-map-range_with_len (reduced_value fibre m samples) 0 256 k k 0 (omega arith) (omega arith)))
-
   -- common modes and clusters, as the definition has them
   pub formed : (meaning : Meaning) (f : ℕ) (m : Pair ℕ) (values : List ℕ) (reached : List Reached) (runs : List Run) (content : Content)
       → m.left ≡ mode_of_flats meaning f fibre flats Left
@@ -110,7 +148,7 @@ module _ (fibre : FibreSettings) (samples flats : List ℕ) (is : flats ≡ map 
   unfolding suppressed_by
   formed meaning f m values reached runs content left right vs rs found is_content =
       let values_then = vs ∙ values_are m in
-      let reached_then = rs ∙ ap (all_reached fibre) values_then ∙ reached_are m in
+      let reached_then = rs ∙ ap (all_reached fibre) values_then ∙ reached_of fibre (reduced_value fibre m samples) in
       let l = mode_is meaning f m.left Left left in
       let r = mode_is meaning f m.right Right right in
       let modes = pair_is m (common_mode meaning f fibre samples Left) (common_mode meaning f fibre samples Right) l r in

@@ -1,14 +1,16 @@
 -- The values of a chip's strips that count, gathered strip by strip.
 -- Assumes nothing.
-use Rattle.std.proofs.Common.{◌≡◌, ℕ, ◌+◌, ◌-◌, ◌*◌, ◌≤◌, Bool, true, false, not, cond, List, [], ◌∷◌, ◌++◌, map, length, get_or, filter, sym, refl, ap, ◌∙◌, append-nil, arith}
+use Rattle.std.proofs.Common.{◌≡◌, ℕ, ◌+◌, ◌-◌, ◌*◌, ◌<◌, ◌≤◌, zero, suc, Bool, true, false, not, cond, List, [], ◌∷◌, ◌++◌, map, length, get_or, filter, sym, refl, ap, ◌∙◌, append-nil, arith}
 use Rattle.std.proofs.lemmas.List.{map-append, length-map}
 use Rattle.std.proofs.lemmas.List.FromFn.{filter_of_map_range_with_len_more, length-range_with_len}
 use Rattle.std.proofs.lemmas.List.Filters.{length-filter_both}
+use Rattle.std.proofs.lemmas.Bool.{lt-ltb, le-ltb}
 use Rattle.std.specs.List.{range_with_len}
 use Rattle.terms.specs.declared.pair.Side.{Side}
-use Rattle.terms.specs.Terms.{side_number}
+use Rattle.terms.specs.declared.pair.Side.TheVariants.{Left, Right}
+use Rattle.terms.specs.Terms.{enabled, side_number}
 use Rattle.settings.specs.declared.fibre.FibreSettings.{FibreSettings}
-use Rattle.strips.specs.Fibre.{counts, counted_strips, counted_values}
+use Rattle.strips.specs.Fibre.{side_of, counts, counted_strips, counted_values}
 
 -- the strips from first up to strip that count
 abbrev counted : FibreSettings → ℕ → ℕ → List ℕ
@@ -17,6 +19,29 @@ counted fibre first strip = filter (counts fibre) (range_with_len first (strip -
 -- they have given their values
 abbrev pub Gathered : FibreSettings → List ℕ → List ℕ → ℕ → ℕ → Type 0
 Gathered fibre values got first strip = got ≡ map (λ s. get_or values s 0) (counted fibre first strip)
+
+-- a strip from the first of a chip on lies on that chip
+pub on_chip : (side : Side) (s : ℕ) → 128 * side_number side ≤ s → s < 128 * side_number side + 128 → side_of s ≡ side
+on_chip Left s low high = simp (lt-ltb s 128 (omega arith))
+on_chip Right s low high = simp (le-ltb s 128 (omega arith))
+
+-- on an enabled chip the valid strips count, on another none does
+pub counts_valid : (fibre : FibreSettings) (side : Side) (s : ℕ) → side_of s ≡ side → enabled fibre.enable side ≡ true → counts fibre s ≡ get_or fibre.valid s false
+counts_valid fibre side s on e = rw (on, e)
+
+counts_none : (fibre : FibreSettings) (side : Side) (s : ℕ) → side_of s ≡ side → enabled fibre.enable side ≡ false → counts fibre s ≡ false
+counts_none fibre side s on e = rw (on, e)
+
+kept_none : (p : ℕ → Bool) (a n : ℕ) → ((k : ℕ) → a ≤ k → k < a + n → p k ≡ false) → filter p (range_with_len a n) ≡ []
+kept_none p a zero none = refl
+kept_none p a (suc n) none =
+    let here : p a ≡ false = none a (omega arith) (omega arith) in
+    rw here (kept_none p (a + 1) n (λ k low high. none k (omega arith) (omega arith)))
+
+pub none_counted : (fibre : FibreSettings) (side : Side) → enabled fibre.enable side ≡ false → counted_strips fibre side ≡ []
+unfolding counted_strips
+none_counted fibre side e =
+    kept_none (counts fibre) (128 * side_number side) 128 (λ k low high. counts_none fibre side k (on_chip side k low high) e)
 
 map_same : (xs : List ℕ) → map (λ x. x) xs ≡ xs
 map_same [] = refl
@@ -53,6 +78,12 @@ module _ (fibre : FibreSettings) (values got : List ℕ) (first strip : ℕ) (lo
   pub gathered_none : counts fibre strip ≡ false → Gathered fibre values got first (strip + 1)
   gathered_none e =
       so_far ∙ ap (map (λ s. get_or values s 0)) (sym (counted_more fibre first strip false low e ∙ append-nil (counted fibre first strip)))
+
+-- on an enabled chip a strip counts where it is valid
+pub counts_as_valid : (fibre : FibreSettings) (side : Side) (first s : ℕ) (b : Bool) → first ≡ 128 * side_number side → first ≤ s → s < first + 128
+    → enabled fibre.enable side ≡ true → get_or fibre.valid s false ≡ b → counts fibre s ≡ b
+counts_as_valid fibre side first s b at low high on is =
+    counts_valid fibre side s (on_chip side s (omega arith) (omega arith)) on ∙ is
 
 pub gathered_all : (fibre : FibreSettings) (side : Side) (values got : List ℕ) (first strip : ℕ) → first ≡ 128 * side_number side
     → strip ≡ first + 128 → Gathered fibre values got first strip

@@ -1,4 +1,3 @@
-pub mod Made
 pub mod Rows
 pub mod OrderTable
 pub mod Scattering

@@ -3,7 +3,7 @@ ghost use Rattle.std.specs.Prelude.{◌≡◌, ℕ, ◌≤◌};
 ghost use Rattle.terms.specs.declared.pair.Side.TheVariants.{Left, Right};
 ghost use Rattle.strips.specs.Fibre.{counted_values, mode_of_flats};
 
-use crate::chip::{counts, first_strip};
+use crate::chip::first_strip;
 use crate::flat::FlatValues;
 use arrayvec::ArrayVec;
 use rules::Rule;
@@ -18,10 +18,13 @@ fn counted_values(
 ) -> ArrayVec<u16, CHIP_STRIPS>
     ensures { result.items ≡ counted_values settings.now side flats.now.values }
 {
-    let first = first_strip(side);
     let mut values = ArrayVec::new();
+    if !settings.enable.has(side) {
+        return values;
+    }
+    let first = first_strip(side);
     for strip in first..first + CHIP_STRIPS {
-        if counts(settings, strip) {
+        if settings.valid[strip] {
             values.push(flats.values[strip]);
         }
     }

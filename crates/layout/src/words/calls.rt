@@ -20,15 +20,9 @@ impl Words {
     }
 }
 
-// Whether no word is above 1023. The largest decides, so that no word ends the loop early.
+// Whether no word is above 1023.
 fn have_ten_bits(list: &[u16; STRIPS]) -> bool
     ensures { result ≡ at_most 1023 list.now }
 {
-    let mut largest = 0;
-    for word in list {
-        if *word > largest {
-            largest = *word;
-        }
-    }
-    largest <= LARGEST
+    list.iter().all(|word| *word <= LARGEST)
 }

@@ -11,6 +11,6 @@ unwrap-requires g c =
 pub returns : goal.returns
 returns g c =
     formed c.args.settings.now (numbers c.args.samples.now) c.flat_values-flats.result.values c.flat_values-flats.ensures
-    (g.R.Rule.meaning c.args.rule.now) c.args.fibre.index c.common_modes-modes.result c.reduced_values-values.result c.all_reached.result
+    (g.R.Rule.meaning c.args.rule.now) c.args.fibre.index c.common_modes-modes.result c.reduce-reduced.result.values c.reduce-reduced.result.reached
     (listed c.find_clusters-runs.result) (suppressed_content c.unwrap.result) c.common_modes-modes.ensures.left c.common_modes-modes.ensures.right
-    c.reduced_values-values.ensures c.all_reached.ensures c.find_clusters-runs.ensures (taken_is _ c.unwrap.result _ _ c.new.ensures c.unwrap.ensures)
+    c.reduce-reduced.ensures.values c.reduce-reduced.ensures.reached c.find_clusters-runs.ensures (taken_is _ c.unwrap.result _ _ c.new.ensures c.unwrap.ensures)
