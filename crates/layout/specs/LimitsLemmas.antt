@@ -1,7 +1,9 @@
 -- Limits of numbers: the test of a list, element by element.
-use Rattle.std.specs.Prelude.{◌≡◌, ℕ, suc, ◌≤◌, true, List, [], ◌∷◌, nat_le, slice_index, refl}
-use Rattle.std.specs.List.{AllByRecursion}
+use Rattle.std.specs.Prelude.{◌≡◌, ℕ, suc, max, ◌<◌, ◌≤◌, Bool, true, false, ◌&&◌, List, [], ◌∷◌, nat_le, slice_index, refl}
+use Rattle.std.proofs.Common.{sym, ap, ◌∙◌, arith}
+use Rattle.std.specs.List.{AllByRecursion, fold}
 use Rattle.std.proofs.lemmas.Bool.{and_parts, and_from, leb-true, le-leb}
+use Rattle.std.proofs.lemmas.Bool.Decides.{nat_tests}
 use Rattle.layout.specs.Limits.{at_most}
 
 pub at_most_all : (limit : ℕ) (xs : List ℕ) → at_most limit xs ≡ true → AllByRecursion (λ x. x ≤ limit) xs
@@ -14,3 +16,34 @@ pub at_most_from : (limit : ℕ) (xs : List ℕ) → ((k : ℕ) → slice_index 
 at_most_from limit [] h = refl
 at_most_from limit (x ∷ xs) h =
     and_from (nat_le x limit) (at_most limit xs) (le-leb x limit (h 0)) (at_most_from limit xs (λ k. h (suc k)))
+
+-- the largest of numbers tells of them all
+max_within : (limit a x : ℕ) → nat_le (max a x) limit ≡ (nat_le a limit && nat_le x limit)
+max_within limit a x = grind (arith, nat_tests)
+
+largest_tells : (limit a : ℕ) (xs : List ℕ) → nat_le (fold max a xs) limit ≡ (nat_le a limit && at_most limit xs)
+largest_tells limit a [] = with_true (nat_le a limit)
+  where
+    with_true : (b : Bool) → b ≡ (b && true)
+    with_true true = refl
+    with_true false = refl
+largest_tells limit a (x ∷ xs) =
+    largest_tells limit (max a x) xs
+    ∙ ap (λ b. b && at_most limit xs) (max_within limit a x)
+    ∙ regroup (nat_le a limit) (nat_le x limit) (at_most limit xs)
+  where
+    regroup : (a b c : Bool) → ((a && b) && c) ≡ (a && (b && c))
+    regroup true b c = refl
+    regroup false b c = refl
+
+tells : (limit : ℕ) (xs : List ℕ) → nat_le (fold max 0 xs) limit ≡ at_most limit xs
+tells limit xs = largest_tells limit 0 xs ∙ ap (λ b. b && at_most limit xs) (le-leb 0 limit (omega arith))
+
+above : (limit m : ℕ) → limit < m → nat_le m limit ≡ false
+above limit m h = grind (arith, nat_tests)
+
+pub none_above : (limit : ℕ) (xs : List ℕ) → fold max 0 xs ≤ limit → at_most limit xs ≡ true
+none_above limit xs h = sym (tells limit xs) ∙ le-leb (fold max 0 xs) limit h
+
+pub some_above : (limit : ℕ) (xs : List ℕ) → limit < fold max 0 xs → at_most limit xs ≡ false
+some_above limit xs h = sym (tells limit xs) ∙ above limit (fold max 0 xs) h

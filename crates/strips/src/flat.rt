@@ -32,7 +32,8 @@ fn flat_value(sample: Sample, complement: bool, pedestal: u16) -> u16
     }
 }
 
-// The flat values of a fibre's strips, out of its samples in place order.
+// The flat values of a fibre's strips, out of its samples in place order: each goes to its strip, in an order
+// that no iterator has.
 pub(crate) fn flat_values(settings: &FibreSettings, samples: &[Sample; STRIPS]) -> FlatValues
     ensures { result.values ≡ map (flat_value settings.now (numbers samples.now)) strips }
 {

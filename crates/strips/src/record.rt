@@ -36,7 +36,8 @@ pub fn write_fibre<R: Rule>(
     }
 }
 
-// Common modes and clusters.
+// Common modes and clusters. Rule, fibre and settings are those of the call: a struct of the three would be made
+// only to be taken apart.
 fn suppress<R: Rule>(
     rule: &R,
     fibre: Fibre,

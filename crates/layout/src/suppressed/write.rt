@@ -31,7 +31,7 @@ impl Suppressed {
         Ok(length)
     }
 
-    // Writes the clusters one after the other, behind the common modes.
+    // Writes the clusters one after the other, behind the common modes: where one ends, the next begins.
     fn write_clusters(&self, out: &mut [u8])
         requires { 4 + length (flat_map cluster_bytes (clusters self.now)) ≤ length out.old }
         ensures { out.new ≡ over out.old 4 (flat_map cluster_bytes (clusters self.now)) }
