@@ -44,6 +44,10 @@ level fibre samples s = turned fibre.complement (slice_index samples (place_of s
 abbrev pub flat_value : FibreSettings → List ℕ → ℕ → ℕ
 flat_value fibre samples s = flat (slice_index fibre.pedestals s) (level fibre samples s)
 
+-- the flat values of all strips
+abbrev pub flat_values : FibreSettings → List ℕ → List ℕ
+flat_values fibre samples = map (flat_value fibre samples) strips
+
 -- the strips of a chip that count
 unfoldable pub counted_strips : FibreSettings → Side → List ℕ
 counted_strips fibre side = filter (counts fibre) (range_with_len (128 * side_number side) 128)
@@ -99,6 +103,10 @@ suppressed_by fibre m samples =
     (map (cluster_on (map (reduced_value fibre m samples) strips))
     (cluster_runs (map (λ s. reached_by fibre (reduced_value fibre m samples s) s) strips)))
 
+-- the content of a zero-suppressed record
+abbrev pub suppressed_of : Meaning → ℕ → FibreSettings → List ℕ → Content
+suppressed_of meaning f fibre samples = suppressed_by fibre (common_modes meaning f fibre samples) samples
+
 -- the kind of record that a mode asks for
 abbrev pub kind_in : Mode → Kind
 kind_in modes.ZeroSuppression = kinds.ZeroSuppressed
@@ -107,8 +115,8 @@ kind_in modes.VirginRaw = kinds.VirginRaw
 
 -- the content of a fibre's record: common modes and clusters; or the flat values in strip order; or the samples in place order
 abbrev pub content_in : Meaning → ℕ → FibreSettings → Mode → List ℕ → Content
-content_in meaning f fibre modes.ZeroSuppression samples = suppressed_by fibre (common_modes meaning f fibre samples) samples
-content_in meaning f fibre modes.ProcessedRaw samples = words (map (flat_value fibre samples) strips)
+content_in meaning f fibre modes.ZeroSuppression samples = suppressed_of meaning f fibre samples
+content_in meaning f fibre modes.ProcessedRaw samples = words (flat_values fibre samples)
 content_in meaning f fibre modes.VirginRaw samples = words samples
 
 -- the record of a fibre

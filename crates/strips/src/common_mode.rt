@@ -24,7 +24,8 @@ fn counted_values(
     }
     let first = first_strip(side);
     for strip in first..first + CHIP_STRIPS {
-        if settings.valid[strip] {
+        let valid = settings.valid[strip];
+        if valid {
             values.push(flats.values[strip]);
         }
     }

@@ -1,8 +1,8 @@
 // Flat values: samples without their pedestals, in strip order.
-ghost use Rattle.std.specs.Prelude.{◌≡◌, ℕ, ◌≤◌, true, map};
+ghost use Rattle.std.specs.Prelude.{◌≡◌, ◌≤◌, true};
 ghost use Rattle.layout.specs.Limits.{at_most};
 ghost use Rattle.strips.specs.Values.{turned, flat};
-ghost use Rattle.strips.specs.Fibre.{strips, numbers, flat_value};
+ghost use Rattle.strips.specs.Fibre.{numbers, flat_values};
 
 use crate::order::strip_of_place;
 use crate::sample::Sample;
@@ -35,7 +35,7 @@ fn flat_value(sample: Sample, complement: bool, pedestal: u16) -> u16
 // The flat values of a fibre's strips, out of its samples in place order: each goes to its strip, in an order
 // that no iterator has.
 pub(crate) fn flat_values(settings: &FibreSettings, samples: &[Sample; STRIPS]) -> FlatValues
-    ensures { result.values ≡ map (flat_value settings.now (numbers samples.now)) strips }
+    ensures { result.values ≡ flat_values settings.now (numbers samples.now) }
 {
     let mut flats = [0; STRIPS];
     for (place, sample) in samples.iter().enumerate() {

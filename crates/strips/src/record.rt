@@ -1,9 +1,9 @@
 // The record of a fibre, formed of its captured samples and written into a buffer.
-ghost use Rattle.std.specs.Prelude.{◌≡◌, ℕ, map};
+ghost use Rattle.std.specs.Prelude.{◌≡◌, ℕ};
 ghost use Rattle.layout.specs.Event.{words};
 ghost use Rattle.layout.specs.Contents.{suppressed_content, words_content};
 ghost use Rattle.layout.specs.Writing.{Written};
-ghost use Rattle.strips.specs.Fibre.{strips, numbers, flat_value, common_modes, suppressed_by, fibre_record};
+ghost use Rattle.strips.specs.Fibre.{numbers, flat_values, suppressed_of, fibre_record};
 
 use crate::common_mode::common_modes;
 use crate::flat::flat_values;
@@ -44,7 +44,7 @@ fn suppress<R: Rule>(
     settings: &FibreSettings,
     samples: &[Sample; STRIPS],
 ) -> Suppressed
-    ensures { suppressed_content result ≡ suppressed_by settings.now (common_modes (R.Rule.meaning rule.now) fibre.index settings.now (numbers samples.now)) (numbers samples.now) }
+    ensures { suppressed_content result ≡ suppressed_of (R.Rule.meaning rule.now) fibre.index settings.now (numbers samples.now) }
 {
     let flats = flat_values(settings, samples);
     let modes = common_modes(rule, fibre, settings, &flats);
@@ -55,7 +55,7 @@ fn suppress<R: Rule>(
 
 // The flat values of all strips, in strip order.
 fn flat_words(settings: &FibreSettings, samples: &[Sample; STRIPS]) -> Words
-    ensures { words_content result ≡ words (map (flat_value settings.now (numbers samples.now)) strips) }
+    ensures { words_content result ≡ words (flat_values settings.now (numbers samples.now)) }
 {
     Words::new(flat_values(settings, samples).values).unwrap()
 }

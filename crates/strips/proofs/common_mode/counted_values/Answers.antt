@@ -2,7 +2,7 @@ use Rattle.std.proofs.Common.{◌≡◌, ◌+◌, Bool, get_or, false, map, sym,
 use Rattle.strips.specs.Fibre.{counts}
 use Rattle.strips.proofs.Gathering.{none_counted, counts_as_valid, gathered_few, gathered_one, gathered_none, gathered_all}
 use Rattle.strips.proofs.common_mode.counted_values.Goals as goal
-use Rattle.strips.proofs.common_mode.counted_values.Goals.{then-settings-strip, else-settings-strip}
+use Rattle.strips.proofs.common_mode.counted_values.Goals.{then-valid, else-valid}
 
 pub returns-then-not-has : goal.returns-then-not-has
 returns-then-not-has c =
@@ -23,9 +23,9 @@ loop-strip-preserved c =
     let strip = c.loop-strip.strip in
     let counted : (b : Bool) → get_or fibre.valid strip false ≡ b → counts fibre strip ≡ b =
     λ b is. counts_as_valid fibre c.args.side first strip b c.first_strip-first.ensures (omega arith) (omega arith) (sym c.if-not-has.ensures) is in
-    elim c.if-settings-strip.branch [
-      | then-settings-strip w ↦ ap (λ v. v.items) w.values-is ∙ w.push.ensures.items ∙ gathered_one fibre flats got first strip (omega arith) c.loop-strip.invariant (counted _ w.if-settings-strip.true)
-      | else-settings-strip w ↦ ap (λ v. v.items) w.values-is ∙ gathered_none fibre flats got first strip (omega arith) c.loop-strip.invariant (counted _ w.if-settings-strip.false)
+    elim c.if-valid.branch [
+      | then-valid w ↦ ap (λ v. v.items) w.values-is ∙ w.push.ensures.items ∙ gathered_one fibre flats got first strip (omega arith) c.loop-strip.invariant (counted _ w.if-valid.true)
+      | else-valid w ↦ ap (λ v. v.items) w.values-is ∙ gathered_none fibre flats got first strip (omega arith) c.loop-strip.invariant (counted _ w.if-valid.false)
     ]
 
 pub returns : goal.returns

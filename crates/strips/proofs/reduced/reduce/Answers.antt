@@ -1,4 +1,4 @@
-use Rattle.std.proofs.Common.{◌≡◌, ℕ, ◌<◌, get_or, sym, ap, ◌∙◌, refl, arith, length-set}
+use Rattle.std.proofs.Common.{◌≡◌, ℕ, ◌<◌, get_or, sym, ap, ◌∙◌, arith, length-set}
 use Rattle.std.proofs.lemmas.List.FromFn.{fill_by_all}
 use Rattle.terms.specs.Terms.{part}
 use Rattle.clusters.specs.declared.reached.Reached.{Reached}
@@ -7,9 +7,6 @@ use Rattle.strips.specs.Values.{reduced}
 use Rattle.strips.specs.Fibre.{side_of, counts, reached_by, all_reached}
 use Rattle.strips.proofs.Forming.{fill_more, value_is, reached_is, reached_of}
 use Rattle.strips.proofs.reduced.reduce.Goals as goal
-
-pub loop-strip-init : goal.loop-strip-init
-loop-strip-init c = (refl, refl, (λ k h. absurd (omega arith)), (λ k h. absurd (omega arith)))
 
 pub loop-strip-preserved : goal.loop-strip-preserved
 loop-strip-preserved c =

@@ -1,4 +1,4 @@
-use Rattle.std.proofs.Common.{◌≡◌, ◌+◌, ◌≤◌, length, get_or, sym, refl, ap, ◌∙◌, arith}
+use Rattle.std.proofs.Common.{◌≡◌, ◌+◌, ◌≤◌, length, get_or, sym, ap, ◌∙◌, arith}
 use Rattle.std.specs.List.{flat_map}
 use Rattle.std.proofs.lemmas.List.{drop_more}
 use Rattle.layout.specs.Event.{cluster_bytes}
@@ -8,9 +8,6 @@ use Rattle.layout.specs.PlacesLemmas.{taken}
 use Rattle.layout.specs.ContentsLemmas.{clusters_taken, run_ends_at, values_on}
 use Rattle.layout.proofs.Writing.{parts_more, parts_all, joined_map}
 use Rattle.layout.proofs.suppressed.Suppressed.write_clusters.Goals as goal
-
-pub loop-run-init : goal.loop-run-init
-loop-run-init c = (refl, refl)
 
 pub write_cluster-at-requires : goal.write_cluster-at-requires
 write_cluster-at-requires c =
