@@ -5,10 +5,9 @@ use Rattle.std.proofs.lemmas.Bool.{cases_eq, le-leb, eq-eqb, ne_eqb}
 use Rattle.terms.specs.declared.refusal.Refusal.{Refusal}
 use Rattle.stores.specs.declared.call.StoreCall.{StoreCall}
 use Rattle.stores.specs.declared.call.StoreCall.TheVariants.{Put, Take, Level, Capacity, Clear}
-use Rattle.stores.specs.declared.call.StoreAnswer.{StoreAnswer}
-use Rattle.stores.specs.declared.call.StoreAnswer.TheVariants.{Done, Byte}
+use Rattle.stores.specs.declared.call.StoreReply.TheVariants.{Done, Byte}
 use Rattle.stores.specs.Store.{waiting, level_of, oldest, appended, without, put_questions, take_questions, answering}
-use Rattle.stores.specs.Runs.{as_answer, answer_to, lists_after, answers_to, lists_after_all, put_by, taken_by, over_all, row_question, Ran, Alike, Keeps, FirstInFirstOut}
+use Rattle.stores.specs.Runs.{StoreAnswer, as_answer, answer_to, lists_after, answers_to, lists_after_all, put_by, taken_by, over_all, row_question, Ran, Alike, Keeps, FirstInFirstOut}
 use Rattle.stores.proofs.Lists.{put_fits, take_fits, waiting_appended, waiting_without}
 
 -- ---- one call more

@@ -15,7 +15,7 @@ pub mod word_ring;
 
 pub use both::carry_out_on_both;
 pub use byte_ring::ByteRing;
-pub use call::{StoreAnswer, StoreCall};
+pub use call::{StoreAnswer, StoreCall, StoreReply};
 pub use run::{carry_out, carry_out_all, worked_examples};
 pub use store::Store;
 pub use word_ring::WordRing;
