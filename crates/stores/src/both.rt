@@ -3,7 +3,7 @@ ghost use Rattle.std.specs.Prelude.{◌≡◌, min, true, length, is_ok};
 ghost use Rattle.stores.specs.Runs.{row_question, Ran, Alike};
 
 use crate::call::{StoreAnswer, StoreCall};
-use crate::run::carry_out;
+use crate::run::carry_out_all;
 use crate::store::Store;
 use terms::Refusal;
 
@@ -24,9 +24,6 @@ pub fn carry_out_on_both<S: Store, T: Store>(
     if ones.len().min(others.len()) < calls.len() {
         return Err(Refusal::BufferTooShort(calls.len()));
     }
-    for (i, call) in calls.iter().enumerate() {
-        ones[i] = carry_out(one, *call);
-        others[i] = carry_out(other, *call);
-    }
-    Ok(())
+    carry_out_all(one, calls, ones)?;
+    carry_out_all(other, calls, others)
 }

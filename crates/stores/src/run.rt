@@ -40,6 +40,7 @@ pub fn carry_out_all<S: Store>(
     if answers.len() < calls.len() {
         return Err(Refusal::BufferTooShort(calls.len()));
     }
+    // By place: what is written through a zip is not known to the proof.
     for (i, call) in calls.iter().enumerate() {
         answers[i] = carry_out(store, *call);
     }
