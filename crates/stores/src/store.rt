@@ -11,9 +11,6 @@ pub trait Store {
     // The capacity: how many bytes may wait on a fibre.
     ghost room: { Self → ℕ };
 
-    // What holds of every store.
-    ghost sound: { (s : Self) → Sound (room s) (lists s) };
-
     // Appends a byte to a fibre's list: the fibre? 3. Is its list below the capacity? 12.
     fn put(&mut self, fibre: usize, byte: u8) -> Result<(), Refusal>
         ensures answer { result ≡ put_questions (room self.old) (level_of (lists self.old) fibre) fibre 1 }
@@ -70,4 +67,7 @@ pub trait Store {
         }
         Ok(())
     }
+
+    // What holds of every store.
+    ghost sound: { (s : Self) → Sound (room s) (lists s) };
 }

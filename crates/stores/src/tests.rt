@@ -1,9 +1,8 @@
 // A table of calls, wrap-around at every place, and the capacities at the edges.
-use crate::byte_ring::ByteRing;
 use crate::call::{StoreAnswer, StoreCall, StoreReply};
+use crate::ring::{ByteRing, WordRing};
 use crate::run::carry_out;
 use crate::store::Store;
-use crate::word_ring::WordRing;
 use std::process::Abort;
 use std::test::Fail;
 use terms::Refusal;

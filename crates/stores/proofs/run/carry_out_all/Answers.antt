@@ -19,5 +19,5 @@ returns g c =
     record {
       answer = row_fits _ _ (omega arith);
       run = ran;
-      order = λ _. rw (ran.answers, ran.lists_then) (in_order calls (s.lists before) (s.room before) (drop (length calls) c.args.answers.now) (s.sound before).twelve);
+      order = λ _. rw (ran.answers, ran.lists_then) (in_order calls (s.lists before) (s.room before) (drop (length calls) c.args.answers.now) (g.met.S.Store.sound before).twelve);
     }

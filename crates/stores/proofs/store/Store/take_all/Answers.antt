@@ -13,7 +13,7 @@ returns-in_err-slot g c =
     let before = c.args.self.now in
     let at = fibre_parts _ _ _ c.in_ok-level.ensures in
     let ask = rw c.loop-slot.invariant.0 at (err_part _ _ _ c.in_err-slot.ensures.answer) in
-    let may = take_goes_on (s.lists before) c.args.fibre c.loop-slot.slot-index (length c.args.out.now) (s.sound before).twelve at.0 c.loop-slot-test.true (omega arith) in
+    let may = take_goes_on (s.lists before) c.args.fibre c.loop-slot.slot-index (length c.args.out.now) (g.met.Self.Store.sound before).twelve at.0 c.loop-slot-test.true (omega arith) in
     not_granted _ _ ask may
 
 pub loop-slot-preserved : goal.loop-slot-preserved
@@ -23,7 +23,7 @@ loop-slot-preserved g c =
     let f = c.args.fibre in
     let i = c.loop-slot.slot-index in
     let at = fibre_parts _ _ _ c.in_ok-level.ensures in
-    let twelve = (s.sound before).twelve in
+    let twelve = (g.met.Self.Store.sound before).twelve in
     let now = rw c.loop-slot.invariant.0 at c.in_ok-slot.ensures.lists in
     let byte = rw c.loop-slot.invariant.0 at (ok_parts _ _ _ c.in_ok-slot.ensures.answer).1 in (
       now ∙ without_more (s.lists before) f (omega arith) i 1,
