@@ -1,11 +1,11 @@
 -- What a call of a ring leaves, over any memory: cells before it, cells' after it. Assumes nothing.
-use Rattle.std.proofs.Common.{◌≡◌, ℕ, ◌+◌, ◌*◌, ◌<◌, ◌≤◌, [], ◌∷◌, length, get_or, take, Ok, Err, Result, sym, ap, ◌∙◌, refl, arith}
+use Rattle.std.proofs.Common.{◌≡◌, ℕ, ◌+◌, ◌*◌, ◌<◌, ◌≤◌, [], ◌∷◌, length, get_or, take, sym, ap, ◌∙◌, refl, arith}
 use Rattle.std.proofs.lemmas.List.{ext_get_or, length-take-le, get_or-take}
 use Rattle.std.proofs.lemmas.List.FromFn.{length-map-range_with_len, get_or-map-range_with_len}
 use Rattle.stores.specs.declared.index.Index.{Index}
 use Rattle.stores.specs.declared.stretch.Stretch.{Stretch}
 use Rattle.stores.specs.Cells.{round}
-use Rattle.stores.specs.Places.{wrapped, start_at, level_at, place, ring, lists_in, Inside, Granted, Released}
+use Rattle.stores.specs.Places.{wrapped, start_at, level_at, place, ring, Inside, Granted, Released}
 use Rattle.stores.specs.Sound.{level_in, list_of}
 use Rattle.stores.proofs.Lists.{put_may, take_may, answered_by}
 use Rattle.stores.proofs.Rings.{Widened, put_lists, Shortened, take_lists, round_place, ring_inside, place_below, wrapped_start}
