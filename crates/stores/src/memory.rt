@@ -51,9 +51,8 @@ pub trait Memory {
         ensures bytes { Holds (cells self.now) place out.new }
         ensures long { length out.new ≡ length out.old }
     {
-        // By place: what is written through an adapter of `iter_mut` is not known to the proof.
-        for i in 0..out.len() {
-            out[i] = self.get(place + i);
+        for (i, slot) in out.iter_mut().enumerate() {
+            *slot = self.get(place + i);
         }
     }
 

@@ -40,9 +40,7 @@ fn goes_round<S: Store>(rt: &impl Abort, store: &mut S, places: usize) -> Result
         let mut out = [9; 5];
         store.put_all(7, &record)?;
         store.take_all(7, &mut out)?;
-        for (got, wanted) in out.iter().zip(record.iter()) {
-            assert_eq!(rt; *got, *wanted);
-        }
+        assert_eq!(rt; out, record);
     }
     Ok(())
 }
