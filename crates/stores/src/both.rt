@@ -17,9 +17,12 @@ pub fn carry_out_on_both<S: Store, T: Store>(
     others: &mut [StoreAnswer],
 ) -> Result<(), Refusal>
     ensures answer { result ≡ row_question (length calls.now) (min (length ones.old) (length others.old)) }
-    ensures one { Ran (S.Store.room one.old) (S.Store.lists one.old) calls.now ones.old (is_ok result) (S.Store.room one.new) (S.Store.lists one.new) ones.new }
-    ensures other { Ran (T.Store.room other.old) (T.Store.lists other.old) calls.now others.old (is_ok result) (T.Store.room other.new) (T.Store.lists other.new) others.new }
-    ensures alike { is_ok result ≡ true → S.Store.room one.old ≡ T.Store.room other.old → S.Store.lists one.old ≡ T.Store.lists other.old → Alike (length calls.now) ones.new others.new (S.Store.lists one.new) (T.Store.lists other.new) }
+    ensures one { Ran (S.room one.old) (S.lists one.old) calls.now ones.old (is_ok result)
+        (S.room one.new) (S.lists one.new) ones.new }
+    ensures other { Ran (T.room other.old) (T.lists other.old) calls.now others.old (is_ok result)
+        (T.room other.new) (T.lists other.new) others.new }
+    ensures alike { is_ok result ≡ true → S.room one.old ≡ T.room other.old → S.lists one.old ≡ T.lists other.old
+        → Alike (length calls.now) ones.new others.new (S.lists one.new) (T.lists other.new) }
 {
     if ones.len().min(others.len()) < calls.len() {
         return Err(Refusal::BufferTooShort(calls.len()));

@@ -60,7 +60,8 @@ pub trait Memory {
     fn lay(&mut self, stretch: Stretch, bytes: &[u8])
         requires ring { stretch.end ≤ places self.old }
         requires bytes { stretch.first + length bytes.now ≤ stretch.end }
-        ensures cells { Laid (cells self.old) (cells self.new) stretch.first stretch.end stretch.place bytes.now }
+        ensures cells { Laid (cells self.old) (cells self.new) stretch.first stretch.end stretch.place
+            bytes.now }
         ensures places { places self.new ≡ places self.old }
     {
         let (before, after) = bytes.split_at(stretch.before_end(bytes.len()));

@@ -8,9 +8,9 @@ use terms::Refusal;
 
 // Carries out a call, and answers what it answered.
 pub fn carry_out<S: Store>(store: &mut S, call: StoreCall) -> StoreAnswer
-    ensures answer { result ≡ answer_to (S.Store.room store.old) (S.Store.lists store.old) call }
-    ensures lists { S.Store.lists store.new ≡ lists_after (S.Store.room store.old) (S.Store.lists store.old) call }
-    ensures room { S.Store.room store.new ≡ S.Store.room store.old }
+    ensures answer { result ≡ answer_to (S.room store.old) (S.lists store.old) call }
+    ensures lists { S.lists store.new ≡ lists_after (S.room store.old) (S.lists store.old) call }
+    ensures room { S.room store.new ≡ S.room store.old }
 {
     Ok(match call {
         StoreCall::Put(fibre, byte) => {
@@ -34,8 +34,10 @@ pub fn carry_out_all<S: Store>(
     answers: &mut [StoreAnswer],
 ) -> Result<(), Refusal>
     ensures answer { result ≡ row_question (length calls.now) (length answers.old) }
-    ensures run { Ran (S.Store.room store.old) (S.Store.lists store.old) calls.now answers.old (is_ok result) (S.Store.room store.new) (S.Store.lists store.new) answers.new }
-    ensures order { is_ok result ≡ true → FirstInFirstOut (S.Store.lists store.old) calls.now answers.new (S.Store.lists store.new) }
+    ensures run { Ran (S.room store.old) (S.lists store.old) calls.now answers.old (is_ok result)
+        (S.room store.new) (S.lists store.new) answers.new }
+    ensures order { is_ok result ≡ true
+        → FirstInFirstOut (S.lists store.old) calls.now answers.new (S.lists store.new) }
 {
     if answers.len() < calls.len() {
         return Err(Refusal::BufferTooShort(calls.len()));

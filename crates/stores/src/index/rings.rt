@@ -9,7 +9,10 @@ use crate::stretch::Stretch;
 use terms::{FIBRES, Refusal};
 
 // The largest capacity.
-pub const LARGEST: usize = 2048;
+const LARGEST: usize = 2048;
+
+// No byte waits.
+const NO_BYTE: Queue = Queue { start: 0, level: 0 };
 
 impl Index {
     // Twelve empty rings of a capacity, of 2,048 if that is larger.
@@ -19,7 +22,7 @@ impl Index {
     {
         Index {
             capacity: capacity.min(LARGEST),
-            queues: [Queue { start: 0, level: 0 }; 12],
+            queues: [NO_BYTE; 12],
         }
     }
 
@@ -98,7 +101,8 @@ impl Index {
 
     // How many bytes wait on a fibre.
     pub(crate) fn level(&self, fibre: usize) -> Result<usize, Refusal>
-        ensures { (cells : ℕ → ℕ) → result ≡ fibre_question fibre (Ok (level_of (lists_in self.now cells) fibre)) }
+        ensures { (cells : ℕ → ℕ)
+            → result ≡ fibre_question fibre (Ok (level_of (lists_in self.now cells) fibre)) }
     {
         Ok(self.queue(fibre)?.level)
     }
@@ -108,6 +112,6 @@ impl Index {
         ensures lists { (cells : ℕ → ℕ) → lists_in self.new cells ≡ empty_lists }
         ensures room { self.new.capacity ≡ self.old.capacity }
     {
-        self.queues = [Queue { start: 0, level: 0 }; 12];
+        self.queues = [NO_BYTE; 12];
     }
 }
