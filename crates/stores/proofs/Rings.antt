@@ -25,10 +25,6 @@ pub wrapped_below : (room i : ℕ) → i < room + room → wrapped room i < room
 wrapped_below room i h =
     ⊎_elim (λ b. rw (wrapped_before room i b) b) (λ p. rw (wrapped_past room i p) (omega arith)) (cases_lt i room)
 
-pub wrapped_most : (room i : ℕ) → i ≤ room + room → wrapped room i ≤ room
-wrapped_most room i h =
-    ⊎_elim (λ b. rw (wrapped_before room i b) (omega arith)) (λ p. rw (wrapped_past room i p) (omega arith)) (cases_lt i room)
-
 -- where the oldest byte lies, no place was passed
 pub wrapped_start : (room s : ℕ) → s ≤ room - 1 → wrapped room (s + 0) ≡ s
 wrapped_start room s h =
