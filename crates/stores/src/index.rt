@@ -3,13 +3,14 @@ ghost use Rattle.std.specs.Prelude.{◌≡◌, ℕ, ◌-◌, ◌≤◌, length};
 ghost use Rattle.stores.specs.Queues.{queue_at};
 
 use crate::queue::Queue;
+use terms::FIBRES;
 
 pub mod rings;
 
 #[derive(Drop)]
 pub struct Index {
     capacity: usize,
-    queues: [Queue; 12],
+    queues: [Queue; FIBRES],
     ghost twelve: { length queues ≡ 12 },
     ghost limit: { capacity ≤ 2048 },
     ghost starts: { (f : ℕ) → (queue_at queues f).start ≤ capacity - 1 },

@@ -18,5 +18,5 @@ pub(crate) fn with_byte(word: u32, k: usize, byte: u8) -> u32
 {
     // By shifts: through an array of its bytes, a write takes three times as long.
     let shift = 8 * k as u32;
-    (word & !(0xff << shift)) | ((byte as u32) << shift)
+    (word & !(0xff << shift)) | (u32::from(byte) << shift)
 }

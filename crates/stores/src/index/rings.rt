@@ -22,7 +22,7 @@ impl Index {
     {
         Index {
             capacity: capacity.min(LARGEST),
-            queues: [NO_BYTE; 12],
+            queues: [NO_BYTE; FIBRES],
         }
     }
 
@@ -112,6 +112,6 @@ impl Index {
         ensures lists { (cells : ℕ → ℕ) → lists_in self.new cells ≡ empty_lists }
         ensures room { self.new.capacity ≡ self.old.capacity }
     {
-        self.queues = [NO_BYTE; 12];
+        self.queues = [NO_BYTE; FIBRES];
     }
 }
