@@ -36,10 +36,7 @@ impl Index {
     fn queue(&self, fibre: usize) -> Result<Queue, Refusal>
         ensures { result ≡ fibre_question fibre (Ok (queue_of self.now fibre)) }
     {
-        if fibre >= FIBRES {
-            return Err(Refusal::NoSuchFibre);
-        }
-        Ok(self.queues[fibre])
+        self.queues.get(fibre).copied().ok_or(Refusal::NoSuchFibre)
     }
 
     // A place of a ring, counted from its first place, where one round at most was passed.

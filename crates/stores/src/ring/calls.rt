@@ -51,6 +51,7 @@ impl<M: Memory> Store for Ring<M> {
         self.index.clear();
     }
 
+    // In two pieces: by the trait's own body, byte by byte, a record takes more than twenty times as long.
     fn put_all(&mut self, fibre: usize, bytes: &[u8]) -> Result<(), Refusal> {
         let stretch = self.index.room_for(fibre, bytes.len())?;
         self.memory.lay(stretch, bytes);
