@@ -4,7 +4,7 @@ use crate::memory::LentStore;
 use call_script::Memory;
 use std::alloc::Global;
 use std::io::Write;
-use stores::{StoreAnswer, StoreCall, carry_out};
+use stores::{StoreAnswer, StoreCall, StoreReply, carry_out};
 
 // The store of the script, if it has made one: a ring of bytes or of words.
 #[derive(Drop)]
@@ -41,17 +41,17 @@ impl<B: LentStore + Drop, W: LentStore + Drop> HeldStore<B, W> {
     ) -> Result<(), Failure> {
         match (self.carry_out(call), call) {
             (None, _) => writeln!(out, "{line} no store")?,
-            (Some(StoreAnswer::Refused(refusal)), _) => {
+            (Some(Err(refusal)), _) => {
                 let number = refusal.number();
                 writeln!(out, "{line} refused {number}")?;
             }
-            (Some(StoreAnswer::Byte(byte)), _) => writeln!(out, "{line} took {byte:02X}")?,
-            (Some(StoreAnswer::Count(count)), StoreCall::Capacity) => {
+            (Some(Ok(StoreReply::Byte(byte))), _) => writeln!(out, "{line} took {byte:02X}")?,
+            (Some(Ok(StoreReply::Count(count))), StoreCall::Capacity) => {
                 writeln!(out, "{line} capacity {count}")?;
             }
-            (Some(StoreAnswer::Count(count)), _) => writeln!(out, "{line} count {count}")?,
-            (Some(StoreAnswer::Done), StoreCall::Clear) => writeln!(out, "{line} cleared")?,
-            (Some(StoreAnswer::Done), _) => writeln!(out, "{line} put")?,
+            (Some(Ok(StoreReply::Count(count))), _) => writeln!(out, "{line} count {count}")?,
+            (Some(Ok(StoreReply::Done)), StoreCall::Clear) => writeln!(out, "{line} cleared")?,
+            (Some(Ok(StoreReply::Done)), _) => writeln!(out, "{line} put")?,
         }
         Ok(())
     }

@@ -1,7 +1,6 @@
 pub mod Calls
 pub mod Lists
-pub mod Memory
+pub mod Pieces
 pub mod Rings
-pub mod Round
 pub mod Runs
 pub mod Words

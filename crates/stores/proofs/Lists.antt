@@ -1,9 +1,9 @@
 -- Laws of twelve lists and of the questions about a call. Assumes nothing.
 use Rattle.std.proofs.Common.{◌≡◌, ℕ, ◌+◌, ◌-◌, ◌<◌, ◌≤◌, List, [], ◌∷◌, ◌++◌, length, get_or, take, drop, set, Ok, Err, Result, sym, refl, ap, ◌∙◌, ⊎_elim, arith}
-use Rattle.std.proofs.lemmas.List.{append-nil, append_assoc, length-append, length-drop, get_or-set_same, set-set, set-get_or, set_at, drop-drop, drop_more, take_more, get_or-drop, length-take-le}
+use Rattle.std.proofs.lemmas.List.{append_assoc, length-append, length-drop, get_or-set_same, set-set, set_at, drop-drop, drop_more, take_more, get_or-drop, length-take-le}
 use Rattle.std.proofs.lemmas.Bool.{cases_lt, lt-ltb, le-ltb, lt-leb, le-leb}
 use Rattle.terms.specs.declared.refusal.Refusal.{Refusal}
-use Rattle.terms.specs.declared.refusal.Refusal.TheVariants.{NoSuchFibre, StoreFull, StoreEmpty}
+use Rattle.terms.specs.declared.refusal.Refusal.TheVariants.{StoreFull, StoreEmpty}
 use Rattle.stores.specs.Store.{waiting, level_of, oldest, appended, without, fibre_question, put_questions, take_questions, answering}
 
 -- ---- the questions
@@ -11,10 +11,6 @@ use Rattle.stores.specs.Store.{waiting, level_of, oldest, appended, without, fib
 pub ok_parts : {A : Type 0} (q : Result (Unit {0}) Refusal) (x a : A) → Ok x ≡ answering q a → (Ok tt ≡ q) × (x ≡ a)
 ok_parts (Ok tt) x a e = (refl, cc)
 ok_parts (Err r) x a e = let z : ◌≡◌ {A = ℕ} 0 1 = cc in absurd (omega arith)
-
-pub err_part : {A : Type 0} (q : Result (Unit {0}) Refusal) (e : Refusal) (a : A) → Err e ≡ answering q a → Err e ≡ q
-err_part (Ok tt) e a h = let z : ◌≡◌ {A = ℕ} 0 1 = cc in absurd (omega arith)
-err_part (Err r) e a h = cc
 
 pub answered_by : {A : Type 0} (q : Result (Unit {0}) Refusal) (x a : A) → Ok tt ≡ q → a ≡ x → Ok x ≡ answering q a
 answered_by q x a e is = rw (← e, is)
@@ -56,9 +52,6 @@ fibre_parts f x y e =
 pub fibre_some : {A : Type 0} (f : ℕ) (x y : A) → f < 12 → y ≡ x → Ok x ≡ fibre_question f (Ok y)
 fibre_some f x y h e = rw (lt-ltb f 12 h, e)
 
-pub fibre_none : {A : Type 0} (f : ℕ) (r : Result A Refusal) → 12 ≤ f → Err NoSuchFibre ≡ fibre_question f r
-fibre_none f r h = rw (le-ltb f 12 h)
-
 pub put_may : (room level f n : ℕ) → f < 12 → level + n ≤ room → put_questions room level f n ≡ Ok tt
 put_may room level f n b l = rw (lt-ltb f 12 b, le-leb (level + n) room l)
 
@@ -72,12 +65,6 @@ pub take_short : (level f n : ℕ) → f < 12 → level < n → take_questions l
 take_short level f n b l = rw (lt-ltb f 12 b, lt-leb n level l)
 
 -- ---- the lists
-
-pub appended_none : (lists : List (List ℕ)) (f : ℕ) → appended lists f [] ≡ lists
-appended_none lists f = ap (set lists f) (append-nil (waiting lists f)) ∙ set-get_or lists f []
-
-pub without_none : (lists : List (List ℕ)) (f : ℕ) → without lists f 0 ≡ lists
-without_none lists f = set-get_or lists f []
 
 module _ (lists : List (List ℕ)) (f : ℕ) (here : f < length lists) where
   pub waiting_appended : (xs : List ℕ) → waiting (appended lists f xs) f ≡ waiting lists f ++ xs
@@ -105,25 +92,10 @@ module _ (lists : List (List ℕ)) (f : ℕ) (here : f < length lists) where
 
 -- ---- byte by byte
 
--- while bytes are put one by one, of which there is room for all, none is refused
-pub put_goes_on : (lists : List (List ℕ)) (f room i : ℕ) (bytes : List ℕ) → length lists ≡ 12 → f < 12 → i < length bytes → level_of lists f + length bytes ≤ room
-    → put_questions room (level_of (appended lists f (take i bytes)) f) f 1 ≡ Ok tt
-put_goes_on lists f room i bytes twelve b l fits =
-    let m = level_appended lists f (omega arith) (take i bytes) in
-    let k = length-take-le i bytes (omega arith) in
-    put_may room (level_of (appended lists f (take i bytes)) f) f 1 b (omega arith)
-
 pub put_next : (lists : List (List ℕ)) (f i b : ℕ) (bytes : List ℕ) → f < length lists → i < length bytes → b ≡ get_or bytes i 0
     → appended (appended lists f (take i bytes)) f (b ∷ []) ≡ appended lists f (take (i + 1) bytes)
 put_next lists f i b bytes here l is =
     appended_more lists f here (take i bytes) (b ∷ []) ∙ ap (appended lists f) (ap (λ x. take i bytes ++ (x ∷ [])) is ∙ sym (take_more bytes i 0 l))
-
--- while bytes are taken one by one, of which enough wait, none is refused
-pub take_goes_on : (lists : List (List ℕ)) (f i n : ℕ) → length lists ≡ 12 → f < 12 → i < n → n ≤ level_of lists f
-    → take_questions (level_of (without lists f i) f) f 1 ≡ Ok tt
-take_goes_on lists f i n twelve b l fits =
-    let m = level_without lists f (omega arith) i in
-    take_may (level_of (without lists f i) f) f 1 b (omega arith)
 
 -- the next byte that is taken goes behind those that were taken
 pub take_next : (lists : List (List ℕ)) (f i x : ℕ) (out : List ℕ) → f < length lists → i < length out → i < level_of lists f → x ≡ oldest (without lists f i) f

@@ -1,12 +1,9 @@
--- The bytes of a word, and a row of words as a row of cells. Assumes nothing.
-use Rattle.std.proofs.Common.{◌≡◌, ℕ, zero, suc, ◌-◌, ◌*◌, ◌/◌, ◌%◌, ◌^◌, ◌<◌, cond, eqb, ◌≢◌, List, length, get_or, set, sym, refl, ap, ◌∙◌, ap₂, ⊎_elim, arith}
+-- The bytes of a word. Assumes nothing.
+use Rattle.std.proofs.Common.{◌≡◌, ℕ, zero, suc, ◌-◌, ◌*◌, ◌/◌, ◌%◌, ◌^◌, ◌<◌, cond, eqb, ◌≢◌, refl, ap, ◌∙◌, ap₂, arith}
 use lib.Bits.{bit_and, bit_or, and_zero_r, or_zero_l, or_zero_r}
-use Rattle.std.proofs.lemmas.List.{get_or-set_same, get_or-set_other}
 use Rattle.std.proofs.lemmas.Nat.{and_mask, or_shr, and_shr, or_mod, and_mod}
-use Rattle.std.proofs.lemmas.Bool.{cases_eq, eq-eqb, ne_eqb}
-use Rattle.stores.specs.Cells.{byte_of, word_cell, Written}
-
--- ---- four bytes
+use Rattle.std.proofs.lemmas.Bool.{eq-eqb, ne_eqb}
+use Rattle.stores.specs.Cells.{byte_of}
 
 below_four : (P : ℕ → Type 0) → P 0 → P 1 → P 2 → P 3 → (k : ℕ) → k < 4 → P k
 below_four P a b c d zero h = a
@@ -58,20 +55,3 @@ joined_there w k b j hk hb hj ne =
     ∙ ap₂ (λ m n. bit_or (bit_and (byte_of w j) m) n)
     (holed_byte k j hk hj ∙ ap (λ t. cond t 0 255) (ne_eqb j k ne)) (moved_byte b k j hb hk hj ∙ ap (λ t. cond t b 0) (ne_eqb j k ne))
     ∙ or_zero_r (bit_and (byte_of w j) 255) ∙ and_mask (byte_of w j) 8 ∙ omega arith
-
--- ---- a row of words
-
-pub word_written : (words : List ℕ) (p b w : ℕ) → p < 4 * length words → byte_of w (p % 4) ≡ b
-    → ((j : ℕ) → j < 4 → j ≢ p % 4 → byte_of w j ≡ byte_of (get_or words (p / 4) 0) j)
-    → Written (word_cell words) (word_cell (set words (p / 4) w)) p b
-word_written words p b w h here there =
-    record {
-      here = ap (λ x. byte_of x (p % 4)) (get_or-set_same words (p / 4) w 0 (omega arith)) ∙ here;
-      there = λ q ne. ⊎_elim
-          (λ e.
-          ap (λ i. byte_of (get_or (set words (p / 4) w) i 0) (q % 4)) e
-          ∙ ap (λ x. byte_of x (q % 4)) (get_or-set_same words (p / 4) w 0 (omega arith)) ∙ there (q % 4) (omega arith) (λ m. ne (omega arith))
-          ∙ ap (λ i. byte_of (get_or words i 0) (q % 4)) (sym e))
-          (λ n. ap (λ x. byte_of x (q % 4)) (get_or-set_other words (p / 4) (q / 4) w 0 n))
-          (cases_eq (q / 4) (p / 4));
-    }

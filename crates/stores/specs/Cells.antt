@@ -27,6 +27,15 @@ pub record Written (cells cells' : ℕ → ℕ) (p b : ℕ) : Type 0 where
   pub here : cells' p ≡ b
   pub there : (q : ℕ) → q ≢ p → cells' q ≡ cells q
 
+-- bytes were written from a place on, and nowhere else
+pub record Filled (cells cells' : ℕ → ℕ) (p : ℕ) (bytes : List ℕ) : Type 0 where
+  pub here : (k : ℕ) → k < length bytes → cells' (p + k) ≡ slice_index bytes k
+  pub there : (q : ℕ) → ((k : ℕ) → k < length bytes → q ≢ p + k) → cells' q ≡ cells q
+
+-- bytes are what lies from a place on
+pub record Holds (cells : ℕ → ℕ) (p : ℕ) (bytes : List ℕ) : Type 0 where
+  pub each : (k : ℕ) → k < length bytes → slice_index bytes k ≡ cells (p + k)
+
 -- k places on from a place, in the ring of a row from first to end
 abbrev pub round : ℕ → ℕ → ℕ → ℕ → ℕ
 round first end at k = cond (nat_lt (at + k) end) (at + k) (at + k - end + first)

@@ -1,24 +1,32 @@
 -- Where the bytes of twelve rings lie in one row of places.
 -- Assumes nothing.
-use Rattle.std.specs.Prelude.{◌≡◌, ℕ, ◌+◌, ◌-◌, ◌*◌, ◌<◌, ◌≤◌, cond, List, [], ◌∷◌, map, length, take, is_ok, Ok, Err, Result, nat_lt, slice_index, slice_set}
+use Rattle.std.specs.Prelude.{◌≡◌, ℕ, ◌+◌, ◌-◌, ◌*◌, ◌<◌, ◌≤◌, cond, List, [], ◌∷◌, map, length, take, Ok, Err, Result, nat_lt}
 use Rattle.terms.specs.declared.refusal.Refusal.{Refusal}
 use Rattle.std.specs.List.{range_with_len}
 use Rattle.stores.specs.declared.index.Index.{Index}
+use Rattle.stores.specs.declared.queue.Queue.{Queue}
 use Rattle.stores.specs.declared.stretch.Stretch.{Stretch}
 use Rattle.stores.specs.Cells.{Written, Laid, Picked}
+use Rattle.stores.specs.Queues.{queue_at}
 use Rattle.stores.specs.Store.{waiting, level_of, oldest, appended, without, put_questions, take_questions, answering}
 
 -- a place of a ring, counted from its first place, where one round at most was passed
 abbrev pub wrapped : ℕ → ℕ → ℕ
 wrapped room i = cond (nat_lt i room) i (i - room)
 
+-- the bytes of a fibre in its ring: where in it the oldest lies, and how many wait
+abbrev pub queue_of : Index → ℕ → Queue
+queue_of ix f = queue_at ix.queues f
+
+abbrev pub start_at : Index → ℕ → ℕ
+start_at ix f = (queue_of ix f).start
+
+abbrev pub level_at : Index → ℕ → ℕ
+level_at ix f = (queue_of ix f).level
+
 -- the place of the byte of fibre f that has k older ones before it: each ring has its own part of the row
 abbrev pub place : Index → ℕ → ℕ → ℕ
-place ix f k = f * ix.capacity + wrapped ix.capacity (slice_index ix.starts f + k)
-
--- how many bytes of a fibre wait
-abbrev pub level_at : Index → ℕ → ℕ
-level_at ix f = slice_index ix.levels f
+place ix f k = f * ix.capacity + wrapped ix.capacity (start_at ix f + k)
 
 -- what waits on a fibre, where a row of places holds cells
 abbrev pub ring : Index → (ℕ → ℕ) → ℕ → List ℕ
@@ -28,31 +36,11 @@ ring ix cells f = map (λ k. cells (place ix f k)) (range_with_len 0 (level_at i
 unfoldable pub lists_in : Index → (ℕ → ℕ) → List (List ℕ)
 lists_in ix cells = map (ring ix cells) (range_with_len 0 12)
 
--- the ring of a fibre from a place on
-abbrev pub stretch_of : Index → ℕ → ℕ → Stretch
-stretch_of ix f p = record { first = f * ix.capacity; end = f * ix.capacity + ix.capacity; place = p }
-
--- a stretch of n bytes lies in the ring of a fibre, and that in the row
+-- the part of the row that has the ring of a fibre holds a stretch of n bytes, and the row that part
 pub record Inside (room n : ℕ) (s : Stretch) : Type 0 where
-  pub low : s.first ≤ s.place
-  pub high : s.place ≤ s.end
   pub fits : s.first + n ≤ s.end
   pub end_inside : s.end ≤ 12 * room
   pub place_inside : 0 < n → s.place < 12 * room
-
--- room was made for n bytes of a fibre: r is where the first of them goes, or a refusal
-pub record Appends (ix ix' : Index) (f n : ℕ) (r : Result ℕ Refusal) : Type 0 where
-  pub answer : r ≡ answering (put_questions ix.capacity (level_at ix f) f n) (place ix f (level_at ix f))
-  pub levels : ix'.levels ≡ cond (is_ok r) (slice_set ix.levels f (level_at ix f + n)) ix.levels
-  pub starts : ix'.starts ≡ ix.starts
-  pub room : ix'.capacity ≡ ix.capacity
-
--- the n oldest bytes of a fibre were given up: r is where the first of them lies, or a refusal
-pub record Releases (ix ix' : Index) (f n : ℕ) (r : Result ℕ Refusal) : Type 0 where
-  pub answer : r ≡ answering (take_questions (level_at ix f) f n) (place ix f 0)
-  pub levels : ix'.levels ≡ cond (is_ok r) (slice_set ix.levels f (level_at ix f - n)) ix.levels
-  pub starts : ix'.starts ≡ cond (is_ok r) (slice_set ix.starts f (wrapped ix.capacity (slice_index ix.starts f + n))) ix.starts
-  pub room : ix'.capacity ≡ ix.capacity
 
 -- room was made for n bytes of a fibre: laid into the stretch s, they wait behind the others; put there, one byte does
 pub record Granted (ix ix' : Index) (f n : ℕ) (s : Stretch) : Type 0 where

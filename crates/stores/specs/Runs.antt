@@ -7,22 +7,26 @@ use Rattle.terms.specs.declared.refusal.Refusal.TheVariants.{BufferTooShort, NoS
 use Rattle.terms.specs.Terms.{number}
 use Rattle.stores.specs.declared.call.StoreCall.{StoreCall}
 use Rattle.stores.specs.declared.call.StoreCall.TheVariants.{Put, Take, Level, Capacity, Clear}
-use Rattle.stores.specs.declared.call.StoreAnswer.{StoreAnswer}
-use Rattle.stores.specs.declared.call.StoreAnswer.TheVariants.{Done, Byte, Count, Refused}
+use Rattle.stores.specs.declared.call.StoreReply.{StoreReply}
+use Rattle.stores.specs.declared.call.StoreReply.TheVariants.{Done, Byte, Count}
 use Rattle.stores.specs.Store.{waiting, level_of, oldest, appended, without, empty_lists, fibre_question, put_questions, take_questions, answering, byte_capacity, word_capacity}
 
+-- what a call of a store answers: a reply, or a refusal
+abbrev pub StoreAnswer : Type 0
+StoreAnswer = Result StoreReply Refusal
+
 -- a result as an answer
-abbrev pub as_answer : {A : Type 0} → (A → StoreAnswer) → Result A Refusal → StoreAnswer
-as_answer good (Ok a) = good a
-as_answer good (Err e) = Refused e
+abbrev pub as_answer : {A : Type 0} → (A → StoreReply) → Result A Refusal → StoreAnswer
+as_answer reply (Ok a) = Ok (reply a)
+as_answer reply (Err e) = Err e
 
 -- what a call answers
 abbrev pub answer_to : ℕ → List (List ℕ) → StoreCall → StoreAnswer
 answer_to room lists (Put f b) = as_answer (λ _. Done) (put_questions room (level_of lists f) f 1)
 answer_to room lists (Take f) = as_answer Byte (answering (take_questions (level_of lists f) f 1) (oldest lists f))
 answer_to room lists (Level f) = as_answer Count (fibre_question f (Ok (level_of lists f)))
-answer_to room lists Capacity = Count room
-answer_to room lists Clear = Done
+answer_to room lists Capacity = Ok (Count room)
+answer_to room lists Clear = Ok Done
 
 -- the lists after a call
 abbrev pub lists_after : ℕ → List (List ℕ) → StoreCall → List (List ℕ)
@@ -59,10 +63,10 @@ pub record Alike (n : ℕ) (row row' : List StoreAnswer) (lists lists' : List (L
 
 -- the byte that a call put on fibre f, if it was not refused
 abbrev pub put_by : ℕ → StoreCall → StoreAnswer → List ℕ
-put_by f (Put g b) Done = cond (g == f) (b ∷ []) []
-put_by f (Put g b) (Byte x) = []
-put_by f (Put g b) (Count n) = []
-put_by f (Put g b) (Refused e) = []
+put_by f (Put g b) (Ok Done) = cond (g == f) (b ∷ []) []
+put_by f (Put g b) (Ok (Byte x)) = []
+put_by f (Put g b) (Ok (Count n)) = []
+put_by f (Put g b) (Err e) = []
 put_by f (Take g) a = []
 put_by f (Level g) a = []
 put_by f Capacity a = []
@@ -70,10 +74,10 @@ put_by f Clear a = []
 
 -- the byte that a call took from fibre f, if it was not refused
 abbrev pub taken_by : ℕ → StoreCall → StoreAnswer → List ℕ
-taken_by f (Take g) Done = []
-taken_by f (Take g) (Byte x) = cond (g == f) (x ∷ []) []
-taken_by f (Take g) (Count n) = []
-taken_by f (Take g) (Refused e) = []
+taken_by f (Take g) (Ok Done) = []
+taken_by f (Take g) (Ok (Byte x)) = cond (g == f) (x ∷ []) []
+taken_by f (Take g) (Ok (Count n)) = []
+taken_by f (Take g) (Err e) = []
 taken_by f (Put g b) a = []
 taken_by f (Level g) a = []
 taken_by f Capacity a = []
@@ -104,9 +108,9 @@ abbrev pub WorkedExamples : Type 0
 WorkedExamples =
     (answers_to 2 empty_lists
     (Level 4 ∷ Put 4 7 ∷ Put 4 8 ∷ Put 4 9 ∷ Take 4 ∷ Put 4 10 ∷ Level 4 ∷ Take 4 ∷ Take 4 ∷ Take 4 ∷ Put 5 1 ∷ Clear ∷ Level 5 ∷ Capacity ∷ Put 12 1 ∷ Take 12 ∷ Level 12 ∷ [])
-    ≡ Count 0 ∷ Done ∷ Done ∷ Refused StoreFull ∷ Byte 7 ∷ Done ∷ Count 2 ∷ Byte 8 ∷ Byte 10 ∷ Refused StoreEmpty ∷ Done ∷ Done ∷ Count 0 ∷ Count 2
-    ∷ Refused NoSuchFibre ∷ Refused NoSuchFibre ∷ Refused NoSuchFibre ∷ [])
-    × (answers_to 0 empty_lists (Put 0 1 ∷ []) ≡ Refused StoreFull ∷ [])
+    ≡ Ok (Count 0) ∷ Ok Done ∷ Ok Done ∷ Err StoreFull ∷ Ok (Byte 7) ∷ Ok Done ∷ Ok (Count 2) ∷ Ok (Byte 8) ∷ Ok (Byte 10) ∷ Err StoreEmpty ∷ Ok Done ∷ Ok Done ∷ Ok (Count 0) ∷ Ok (Count 2)
+    ∷ Err NoSuchFibre ∷ Err NoSuchFibre ∷ Err NoSuchFibre ∷ [])
+    × (answers_to 0 empty_lists (Put 0 1 ∷ []) ≡ Err StoreFull ∷ [])
     × ((number NoSuchFibre ≡ 3) × (number StoreFull ≡ 12) × (number StoreEmpty ≡ 13))
     × ((byte_capacity 0 ≡ 0) × (byte_capacity 11 ≡ 0) × (byte_capacity 84 ≡ 7) × (byte_capacity 24576 ≡ 2048) × (byte_capacity 30000 ≡ 2048))
     × ((word_capacity 11 ≡ 0) × (word_capacity 24 ≡ 8) × (word_capacity 6144 ≡ 2048) × (word_capacity 9000 ≡ 2048))

@@ -1,6 +1,6 @@
 -- Why twelve rings are a store: there are twelve lists, none longer than the capacity, and all that waits are bytes.
 -- Assumes nothing.
-use Rattle.std.specs.Prelude.{◌≡◌, ℕ, ◌<◌, List, [], length, get_or, slice_index, slice_index_or}
+use Rattle.std.specs.Prelude.{◌≡◌, ℕ, ◌<◌, List, [], length, slice_index_or}
 use Rattle.std.proofs.Common.{sym, ap, ◌∙◌, ⊎_elim, arith}
 use Rattle.std.proofs.lemmas.List.{get_or_past}
 use Rattle.std.proofs.ByRecursion.{All-from_get_or}
@@ -8,6 +8,8 @@ use Rattle.std.proofs.lemmas.List.FromFn.{length-map-range_with_len, get_or-map-
 use Rattle.std.proofs.lemmas.Bool.{cases_lt}
 use Rattle.stores.specs.declared.index.Index.{Index}
 use Rattle.stores.specs.Store.{waiting, level_of, Bytes, Sound}
+use Rattle.stores.specs.declared.queue.Queue.{Queue}
+use Rattle.stores.specs.Queues.{no_byte}
 use Rattle.stores.specs.Places.{place, ring, level_at, lists_in}
 
 pub list_of : (ix : Index) (cells : ℕ → ℕ) (f : ℕ) (d : List ℕ) → f < 12 → slice_index_or (lists_in ix cells) f d ≡ ring ix cells f
@@ -18,14 +20,14 @@ pub length_lists : (ix : Index) (cells : ℕ → ℕ) → length (lists_in ix ce
 unfolding lists_in
 length_lists ix cells = length-map-range_with_len (ring ix cells) 0 12
 
-pub level_in : (ix : Index) (cells : ℕ → ℕ) (f : ℕ) → level_of (lists_in ix cells) f ≡ slice_index ix.levels f
+pub level_in : (ix : Index) (cells : ℕ → ℕ) (f : ℕ) → level_of (lists_in ix cells) f ≡ level_at ix f
 level_in ix cells f =
-    let n = get_or ix.levels f 0 in
+    let n = level_at ix f in
     let twelve = length_lists ix cells in
-    let longs = ix.twelve.1 in
+    let longs = ix.twelve in
     ⊎_elim
     (λ h. ap length (list_of ix cells f [] h) ∙ length-map-range_with_len (λ k. cells (place ix f k)) 0 n)
-    (λ h. ap length (get_or_past (lists_in ix cells) f [] (omega arith)) ∙ sym (get_or_past ix.levels f 0 (omega arith)))
+    (λ h. ap length (get_or_past (lists_in ix cells) f [] (omega arith)) ∙ ap (λ (q : Queue). q.level) (sym (get_or_past ix.queues f no_byte (omega arith))))
     (cases_lt f 12)
 
 pub bytes_in : (ix : Index) (cells : ℕ → ℕ) (f : ℕ) → ((q : ℕ) → cells q < 256) → Bytes (waiting (lists_in ix cells) f)
@@ -44,7 +46,7 @@ pub rings_sound : (ix : Index) (cells : ℕ → ℕ) → ((q : ℕ) → cells q 
 rings_sound ix cells small =
     record {
       twelve = length_lists ix cells;
-      within = λ f. rw (level_in ix cells f) (ix.inside f).1;
+      within = λ f. rw (level_in ix cells f) (ix.levels f);
       limit = ix.limit;
       bytes = λ f. bytes_in ix cells f small;
     }

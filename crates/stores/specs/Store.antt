@@ -1,6 +1,7 @@
 -- What a store means: twelve lists of waiting bytes, oldest first, and one capacity.
 -- Assumes nothing.
 use Rattle.std.specs.Prelude.{◌≡◌, ℕ, ◌+◌, ◌*◌, ◌/◌, ◌<◌, ◌≤◌, min, cond, List, [], ◌++◌, length, drop, replicate, Ok, Err, Result, nat_le, nat_lt, slice_index, slice_index_or, slice_set}
+use Rattle.std.proofs.Common.{arith}
 use Rattle.std.specs.List.{AllByRecursion}
 use Rattle.terms.specs.declared.refusal.Refusal.{Refusal}
 use Rattle.terms.specs.declared.refusal.Refusal.TheVariants.{NoSuchFibre, StoreFull, StoreEmpty}
@@ -33,12 +34,26 @@ empty_lists = replicate 12 []
 abbrev pub largest : ℕ
 largest = 2048
 
--- the capacity over n lent bytes, and over n lent words of four bytes: a twelfth of them for each fibre
+-- how many of n lent bytes, and of the bytes of n lent words of four, each fibre has: a twelfth of them
+abbrev pub byte_share : ℕ → ℕ
+byte_share n = n / 12
+
+abbrev pub word_share : ℕ → ℕ
+word_share n = 4 * (n / 12)
+
+-- the capacity over n lent bytes, and over n lent words
 abbrev pub byte_capacity : ℕ → ℕ
-byte_capacity n = min (n / 12) largest
+byte_capacity n = min (byte_share n) largest
 
 abbrev pub word_capacity : ℕ → ℕ
-word_capacity n = min (4 * (n / 12)) largest
+word_capacity n = min (word_share n) largest
+
+-- twelve shares are no more than there is
+pub byte_share_enough : (n : ℕ) → 12 * byte_share n ≤ n
+byte_share_enough n = omega arith
+
+pub word_share_enough : (n : ℕ) → 12 * word_share n ≤ 4 * n
+word_share_enough n = omega arith
 
 -- a list of bytes
 abbrev pub Bytes : List ℕ → Type 0

@@ -3,7 +3,7 @@ ghost use Rattle.std.specs.Prelude.{◌≡◌, min, true, length, is_ok};
 ghost use Rattle.stores.specs.Runs.{row_question, Ran, Alike};
 
 use crate::call::{StoreAnswer, StoreCall};
-use crate::run::carry_out;
+use crate::run::carry_out_all;
 use crate::store::Store;
 use terms::Refusal;
 
@@ -17,16 +17,16 @@ pub fn carry_out_on_both<S: Store, T: Store>(
     others: &mut [StoreAnswer],
 ) -> Result<(), Refusal>
     ensures answer { result ≡ row_question (length calls.now) (min (length ones.old) (length others.old)) }
-    ensures one { Ran (S.Store.room one.old) (S.Store.lists one.old) calls.now ones.old (is_ok result) (S.Store.room one.new) (S.Store.lists one.new) ones.new }
-    ensures other { Ran (T.Store.room other.old) (T.Store.lists other.old) calls.now others.old (is_ok result) (T.Store.room other.new) (T.Store.lists other.new) others.new }
-    ensures alike { is_ok result ≡ true → S.Store.room one.old ≡ T.Store.room other.old → S.Store.lists one.old ≡ T.Store.lists other.old → Alike (length calls.now) ones.new others.new (S.Store.lists one.new) (T.Store.lists other.new) }
+    ensures one { Ran (S.room one.old) (S.lists one.old) calls.now ones.old (is_ok result)
+        (S.room one.new) (S.lists one.new) ones.new }
+    ensures other { Ran (T.room other.old) (T.lists other.old) calls.now others.old (is_ok result)
+        (T.room other.new) (T.lists other.new) others.new }
+    ensures alike { is_ok result ≡ true → S.room one.old ≡ T.room other.old → S.lists one.old ≡ T.lists other.old
+        → Alike (length calls.now) ones.new others.new (S.lists one.new) (T.lists other.new) }
 {
     if ones.len().min(others.len()) < calls.len() {
         return Err(Refusal::BufferTooShort(calls.len()));
     }
-    for (i, call) in calls.iter().enumerate() {
-        ones[i] = carry_out(one, *call);
-        others[i] = carry_out(other, *call);
-    }
-    Ok(())
+    carry_out_all(one, calls, ones)?;
+    carry_out_all(other, calls, others)
 }

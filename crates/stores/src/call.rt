@@ -16,15 +16,16 @@ pub enum StoreCall {
     Clear,
 }
 
-// What a call of a store answered.
+// What a call of a store that was not refused answered.
 #[derive(Clone, Copy, Debug, PartialEq, Eq)]
-pub enum StoreAnswer {
+pub enum StoreReply {
     // Put and Clear that were carried out.
     Done,
     // The byte that was taken.
     Byte(u8),
     // A level or the capacity.
     Count(usize),
-    // The first question answered no.
-    Refused(Refusal),
 }
+
+// What a call of a store answered: a reply, or the first question answered no.
+pub type StoreAnswer = Result<StoreReply, Refusal>;

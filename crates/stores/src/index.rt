@@ -1,16 +1,18 @@
 // Where the bytes of twelve rings of one capacity lie, whatever memory holds them.
-ghost use Rattle.std.specs.Prelude.{◌≡◌, ℕ, ◌-◌, ◌≤◌, length, slice_index};
+ghost use Rattle.std.specs.Prelude.{◌≡◌, ℕ, ◌-◌, ◌≤◌, length};
+ghost use Rattle.stores.specs.Queues.{queue_at};
+
+use crate::queue::Queue;
+use terms::FIBRES;
 
 pub mod rings;
 
 #[derive(Drop)]
 pub struct Index {
     capacity: usize,
-    // Where in its ring the oldest byte of each fibre lies.
-    starts: [usize; 12],
-    // How many bytes of each fibre wait.
-    levels: [usize; 12],
-    ghost twelve: { (length starts ≡ 12) × (length levels ≡ 12) },
+    queues: [Queue; FIBRES],
+    ghost twelve: { length queues ≡ 12 },
     ghost limit: { capacity ≤ 2048 },
-    ghost inside: { (f : ℕ) → (slice_index starts f ≤ capacity - 1) × (slice_index levels f ≤ capacity) },
+    ghost starts: { (f : ℕ) → (queue_at queues f).start ≤ capacity - 1 },
+    ghost levels: { (f : ℕ) → (queue_at queues f).level ≤ capacity },
 }

@@ -2,35 +2,29 @@
 ghost use Rattle.std.specs.Prelude.{◌≡◌, true, length, is_ok};
 ghost use Rattle.stores.specs.Runs.{answer_to, lists_after, row_question, Ran, FirstInFirstOut, WorkedExamples};
 
-use crate::call::{StoreAnswer, StoreCall};
+use crate::call::{StoreAnswer, StoreCall, StoreReply};
 use crate::store::Store;
 use terms::Refusal;
 
 // Carries out a call, and answers what it answered.
 pub fn carry_out<S: Store>(store: &mut S, call: StoreCall) -> StoreAnswer
-    ensures answer { result ≡ answer_to (S.Store.room store.old) (S.Store.lists store.old) call }
-    ensures lists { S.Store.lists store.new ≡ lists_after (S.Store.room store.old) (S.Store.lists store.old) call }
-    ensures room { S.Store.room store.new ≡ S.Store.room store.old }
+    ensures answer { result ≡ answer_to (S.room store.old) (S.lists store.old) call }
+    ensures lists { S.lists store.new ≡ lists_after (S.room store.old) (S.lists store.old) call }
+    ensures room { S.room store.new ≡ S.room store.old }
 {
-    match call {
-        StoreCall::Put(fibre, byte) => match store.put(fibre, byte) {
-            Ok(()) => StoreAnswer::Done,
-            Err(refusal) => StoreAnswer::Refused(refusal),
-        },
-        StoreCall::Take(fibre) => match store.take(fibre) {
-            Ok(byte) => StoreAnswer::Byte(byte),
-            Err(refusal) => StoreAnswer::Refused(refusal),
-        },
-        StoreCall::Level(fibre) => match store.level(fibre) {
-            Ok(level) => StoreAnswer::Count(level),
-            Err(refusal) => StoreAnswer::Refused(refusal),
-        },
-        StoreCall::Capacity => StoreAnswer::Count(store.capacity()),
+    Ok(match call {
+        StoreCall::Put(fibre, byte) => {
+            store.put(fibre, byte)?;
+            StoreReply::Done
+        }
+        StoreCall::Take(fibre) => StoreReply::Byte(store.take(fibre)?),
+        StoreCall::Level(fibre) => StoreReply::Count(store.level(fibre)?),
+        StoreCall::Capacity => StoreReply::Count(store.capacity()),
         StoreCall::Clear => {
             store.clear();
-            StoreAnswer::Done
+            StoreReply::Done
         }
-    }
+    })
 }
 
 // Carries out a list of calls, and writes what each answered into a lent row: is it long enough? 11.
@@ -40,12 +34,15 @@ pub fn carry_out_all<S: Store>(
     answers: &mut [StoreAnswer],
 ) -> Result<(), Refusal>
     ensures answer { result ≡ row_question (length calls.now) (length answers.old) }
-    ensures run { Ran (S.Store.room store.old) (S.Store.lists store.old) calls.now answers.old (is_ok result) (S.Store.room store.new) (S.Store.lists store.new) answers.new }
-    ensures order { is_ok result ≡ true → FirstInFirstOut (S.Store.lists store.old) calls.now answers.new (S.Store.lists store.new) }
+    ensures run { Ran (S.room store.old) (S.lists store.old) calls.now answers.old (is_ok result)
+        (S.room store.new) (S.lists store.new) answers.new }
+    ensures order { is_ok result ≡ true
+        → FirstInFirstOut (S.lists store.old) calls.now answers.new (S.lists store.new) }
 {
     if answers.len() < calls.len() {
         return Err(Refusal::BufferTooShort(calls.len()));
     }
+    // By place: what is written through a zip is not known to the proof.
     for (i, call) in calls.iter().enumerate() {
         answers[i] = carry_out(store, *call);
     }
@@ -53,8 +50,6 @@ pub fn carry_out_all<S: Store>(
 }
 
 // What the definitions say of some calls and some memory, worked out.
-pub fn worked_examples() -> u8
-    ensures { WorkedExamples × (result ≡ 0) }
-{
-    0
-}
+pub fn worked_examples()
+    ensures { WorkedExamples }
+{}

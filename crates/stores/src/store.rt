@@ -11,19 +11,19 @@ pub trait Store {
     // The capacity: how many bytes may wait on a fibre.
     ghost room: { Self → ℕ };
 
-    // What holds of every store.
-    ghost sound: { (s : Self) → Sound (room s) (lists s) };
-
     // Appends a byte to a fibre's list: the fibre? 3. Is its list below the capacity? 12.
     fn put(&mut self, fibre: usize, byte: u8) -> Result<(), Refusal>
         ensures answer { result ≡ put_questions (room self.old) (level_of (lists self.old) fibre) fibre 1 }
-        ensures lists { lists self.new ≡ (if is_ok result then appended (lists self.old) fibre (byte ∷ []) else lists self.old) }
+        ensures lists { lists self.new
+            ≡ (if is_ok result then appended (lists self.old) fibre (byte ∷ []) else lists self.old) }
         ensures room { room self.new ≡ room self.old };
 
     // Removes the oldest byte of a fibre and answers it: the fibre? 3. Is a byte waiting? 13.
     fn take(&mut self, fibre: usize) -> Result<u8, Refusal>
-        ensures answer { result ≡ answering (take_questions (level_of (lists self.old) fibre) fibre 1) (oldest (lists self.old) fibre) }
-        ensures lists { lists self.new ≡ (if is_ok result then without (lists self.old) fibre 1 else lists self.old) }
+        ensures answer { result
+            ≡ answering (take_questions (level_of (lists self.old) fibre) fibre 1) (oldest (lists self.old) fibre) }
+        ensures lists { lists self.new
+            ≡ (if is_ok result then without (lists self.old) fibre 1 else lists self.old) }
         ensures room { room self.new ≡ room self.old };
 
     // How many bytes wait on a fibre: the fibre? 3.
@@ -41,8 +41,10 @@ pub trait Store {
 
     // Appends a whole record to a fibre's list: the fibre? 3. Do all its bytes fit? 12.
     fn put_all(&mut self, fibre: usize, bytes: &[u8]) -> Result<(), Refusal>
-        ensures answer { result ≡ put_questions (room self.old) (level_of (lists self.old) fibre) fibre (length bytes.now) }
-        ensures lists { lists self.new ≡ (if is_ok result then appended (lists self.old) fibre bytes.now else lists self.old) }
+        ensures answer { result
+            ≡ put_questions (room self.old) (level_of (lists self.old) fibre) fibre (length bytes.now) }
+        ensures lists { lists self.new
+            ≡ (if is_ok result then appended (lists self.old) fibre bytes.now else lists self.old) }
         ensures room { room self.new ≡ room self.old }
     {
         let level = self.level(fibre)?;
@@ -57,9 +59,12 @@ pub trait Store {
 
     // Removes as many of the oldest bytes of a fibre as `out` is long, into it: the fibre? 3. Do so many wait? 13.
     fn take_all(&mut self, fibre: usize, out: &mut [u8]) -> Result<(), Refusal>
-        ensures answer { result ≡ take_questions (level_of (lists self.old) fibre) fibre (length out.old) }
-        ensures lists { lists self.new ≡ (if is_ok result then without (lists self.old) fibre (length out.old) else lists self.old) }
-        ensures out { out.new ≡ (if is_ok result then take (length out.old) (waiting (lists self.old) fibre) else out.old) }
+        ensures answer { result
+            ≡ take_questions (level_of (lists self.old) fibre) fibre (length out.old) }
+        ensures lists { lists self.new
+            ≡ (if is_ok result then without (lists self.old) fibre (length out.old) else lists self.old) }
+        ensures out { out.new
+            ≡ (if is_ok result then take (length out.old) (waiting (lists self.old) fibre) else out.old) }
         ensures room { room self.new ≡ room self.old }
     {
         if out.len() > self.level(fibre)? {
@@ -70,4 +75,7 @@ pub trait Store {
         }
         Ok(())
     }
+
+    // What holds of every store.
+    ghost sound: { (s : Self) → Sound (room s) (lists s) };
 }

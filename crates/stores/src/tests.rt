@@ -1,40 +1,30 @@
 // A table of calls, wrap-around at every place, and the capacities at the edges.
-use crate::byte_ring::ByteRing;
-use crate::call::{StoreAnswer, StoreCall};
+use crate::call::{StoreAnswer, StoreCall, StoreReply};
+use crate::ring::{ByteRing, WordRing};
 use crate::run::carry_out;
 use crate::store::Store;
-use crate::word_ring::WordRing;
 use std::process::Abort;
 use std::test::Fail;
 use terms::Refusal;
 
 // Calls with what a list of at most four bytes would answer.
 const TABLE: [(StoreCall, StoreAnswer); 16] = [
-    (
-        StoreCall::Take(11),
-        StoreAnswer::Refused(Refusal::StoreEmpty),
-    ),
-    (StoreCall::Put(11, 1), StoreAnswer::Done),
-    (StoreCall::Put(11, 2), StoreAnswer::Done),
-    (StoreCall::Put(10, 3), StoreAnswer::Done),
-    (StoreCall::Put(11, 4), StoreAnswer::Done),
-    (StoreCall::Take(11), StoreAnswer::Byte(1)),
-    (StoreCall::Put(11, 255), StoreAnswer::Done),
-    (StoreCall::Put(11, 5), StoreAnswer::Done),
-    (
-        StoreCall::Put(11, 6),
-        StoreAnswer::Refused(Refusal::StoreFull),
-    ),
-    (StoreCall::Level(11), StoreAnswer::Count(4)),
-    (StoreCall::Take(11), StoreAnswer::Byte(2)),
-    (StoreCall::Take(11), StoreAnswer::Byte(4)),
-    (StoreCall::Take(11), StoreAnswer::Byte(255)),
-    (StoreCall::Take(10), StoreAnswer::Byte(3)),
-    (StoreCall::Clear, StoreAnswer::Done),
-    (
-        StoreCall::Take(11),
-        StoreAnswer::Refused(Refusal::StoreEmpty),
-    ),
+    (StoreCall::Take(11), Err(Refusal::StoreEmpty)),
+    (StoreCall::Put(11, 1), Ok(StoreReply::Done)),
+    (StoreCall::Put(11, 2), Ok(StoreReply::Done)),
+    (StoreCall::Put(10, 3), Ok(StoreReply::Done)),
+    (StoreCall::Put(11, 4), Ok(StoreReply::Done)),
+    (StoreCall::Take(11), Ok(StoreReply::Byte(1))),
+    (StoreCall::Put(11, 255), Ok(StoreReply::Done)),
+    (StoreCall::Put(11, 5), Ok(StoreReply::Done)),
+    (StoreCall::Put(11, 6), Err(Refusal::StoreFull)),
+    (StoreCall::Level(11), Ok(StoreReply::Count(4))),
+    (StoreCall::Take(11), Ok(StoreReply::Byte(2))),
+    (StoreCall::Take(11), Ok(StoreReply::Byte(4))),
+    (StoreCall::Take(11), Ok(StoreReply::Byte(255))),
+    (StoreCall::Take(10), Ok(StoreReply::Byte(3))),
+    (StoreCall::Clear, Ok(StoreReply::Done)),
+    (StoreCall::Take(11), Err(Refusal::StoreEmpty)),
 ];
 
 fn answers_the_table<S: Store>(rt: &impl Abort, store: &mut S) {
@@ -50,9 +40,7 @@ fn goes_round<S: Store>(rt: &impl Abort, store: &mut S, places: usize) -> Result
         let mut out = [9; 5];
         store.put_all(7, &record)?;
         store.take_all(7, &mut out)?;
-        for (got, wanted) in out.iter().zip(record.iter()) {
-            assert_eq!(rt; *got, *wanted);
-        }
+        assert_eq!(rt; out, record);
     }
     Ok(())
 }
@@ -65,7 +53,7 @@ fn holds<S: Store>(rt: &impl Abort, store: &mut S, capacity: usize) -> Result<()
     }
     assert_eq!(rt;
         carry_out(store, StoreCall::Put(0, 1)),
-        StoreAnswer::Refused(Refusal::StoreFull)
+        Err(Refusal::StoreFull)
     );
     Ok(())
 }

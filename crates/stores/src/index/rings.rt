@@ -1,14 +1,18 @@
 // What is asked about the rings and what changes in them.
-ghost use Rattle.std.specs.Prelude.{◌≡◌, ℕ, ◌<◌, min, Ok};
-ghost use Rattle.stores.specs.Places.{lists_in, stretch_of, Appends, Releases, RoomFor, Oldest};
+ghost use Rattle.std.specs.Prelude.{◌≡◌, ℕ, ◌+◌, ◌*◌, ◌<◌, ◌≤◌, min, Ok};
+ghost use Rattle.stores.specs.Places.{lists_in, queue_of, wrapped, RoomFor, Oldest};
 ghost use Rattle.stores.specs.Store.{level_of, empty_lists, largest, fibre_question};
 
 use super::Index;
+use crate::queue::Queue;
 use crate::stretch::Stretch;
 use terms::{FIBRES, Refusal};
 
 // The largest capacity.
-pub const LARGEST: usize = 2048;
+const LARGEST: usize = 2048;
+
+// No byte waits.
+const NO_BYTE: Queue = Queue { start: 0, level: 0 };
 
 impl Index {
     // Twelve empty rings of a capacity, of 2,048 if that is larger.
@@ -18,8 +22,7 @@ impl Index {
     {
         Index {
             capacity: capacity.min(LARGEST),
-            starts: [0; 12],
-            levels: [0; 12],
+            queues: [NO_BYTE; FIBRES],
         }
     }
 
@@ -29,59 +32,37 @@ impl Index {
         self.capacity
     }
 
-    // Makes room for `count` bytes on a fibre, and answers where the first of them goes.
-    fn append(&mut self, fibre: usize, count: usize) -> Result<usize, Refusal>
-        ensures { Appends self.old self.new fibre count result }
+    // The bytes of a fibre in its ring: the fibre? 3.
+    fn queue(&self, fibre: usize) -> Result<Queue, Refusal>
+        ensures { result ≡ fibre_question fibre (Ok (queue_of self.now fibre)) }
     {
-        if fibre >= FIBRES {
-            return Err(Refusal::NoSuchFibre);
-        }
-        let level = self.levels[fibre];
-        if count > self.capacity - level {
-            return Err(Refusal::StoreFull);
-        }
-        let next = self.starts[fibre] + level;
-        let within = if next < self.capacity {
-            next
-        } else {
-            next - self.capacity
-        };
-        self.levels[fibre] = level + count;
-        Ok(fibre * self.capacity + within)
+        self.queues.get(fibre).copied().ok_or(Refusal::NoSuchFibre)
     }
 
-    // Gives up the `count` oldest bytes of a fibre, and answers where the first of them lies.
-    fn release(&mut self, fibre: usize, count: usize) -> Result<usize, Refusal>
-        ensures { Releases self.old self.new fibre count result }
+    // A place of a ring, counted from its first place, where one round at most was passed.
+    fn wrapped(&self, place: usize) -> usize
+        ensures { result ≡ wrapped self.now.capacity place }
     {
-        if fibre >= FIBRES {
-            return Err(Refusal::NoSuchFibre);
-        }
-        let level = self.levels[fibre];
-        if count > level {
-            return Err(Refusal::StoreEmpty);
-        }
-        let first = self.starts[fibre];
-        let next = first + count;
-        self.starts[fibre] = if next < self.capacity {
-            next
+        if place < self.capacity {
+            place
         } else {
-            next - self.capacity
-        };
-        self.levels[fibre] = level - count;
-        Ok(fibre * self.capacity + first)
+            place - self.capacity
+        }
     }
 
-    // The stretch of a fibre's ring from a place on.
-    fn stretch(&self, fibre: usize, place: usize) -> Stretch
-        requires { fibre < 12 }
-        ensures { result ≡ stretch_of self.now fibre place }
+    // The stretch of a fibre's ring from a place of the ring on.
+    fn stretch(&self, fibre: usize, within: usize) -> Stretch
+        requires fibre { fibre < 12 }
+        requires within { within ≤ self.now.capacity }
+        ensures first { result.first ≡ fibre * self.now.capacity }
+        ensures end { result.end ≡ fibre * self.now.capacity + self.now.capacity }
+        ensures place { result.place ≡ fibre * self.now.capacity + within }
     {
         let first = fibre * self.capacity;
         Stretch {
             first,
             end: first + self.capacity,
-            place,
+            place: first + within,
         }
     }
 
@@ -89,26 +70,38 @@ impl Index {
     pub(crate) fn room_for(&mut self, fibre: usize, count: usize) -> Result<Stretch, Refusal>
         ensures { RoomFor self.old self.new fibre count result }
     {
-        let place = self.append(fibre, count)?;
-        Ok(self.stretch(fibre, place))
+        let Queue { start, level } = self.queue(fibre)?;
+        if count > self.capacity - level {
+            return Err(Refusal::StoreFull);
+        }
+        self.queues[fibre] = Queue {
+            start,
+            level: level + count,
+        };
+        Ok(self.stretch(fibre, self.wrapped(start + level)))
     }
 
     // Gives up the `count` oldest bytes of a fibre, and answers where they lie.
     pub(crate) fn give_up(&mut self, fibre: usize, count: usize) -> Result<Stretch, Refusal>
         ensures { Oldest self.old self.new fibre count result }
     {
-        let place = self.release(fibre, count)?;
-        Ok(self.stretch(fibre, place))
+        let Queue { start, level } = self.queue(fibre)?;
+        if count > level {
+            return Err(Refusal::StoreEmpty);
+        }
+        self.queues[fibre] = Queue {
+            start: self.wrapped(start + count),
+            level: level - count,
+        };
+        Ok(self.stretch(fibre, start))
     }
 
     // How many bytes wait on a fibre.
     pub(crate) fn level(&self, fibre: usize) -> Result<usize, Refusal>
-        ensures { (cells : ℕ → ℕ) → result ≡ fibre_question fibre (Ok (level_of (lists_in self.now cells) fibre)) }
+        ensures { (cells : ℕ → ℕ)
+            → result ≡ fibre_question fibre (Ok (level_of (lists_in self.now cells) fibre)) }
     {
-        if fibre >= FIBRES {
-            return Err(Refusal::NoSuchFibre);
-        }
-        Ok(self.levels[fibre])
+        Ok(self.queue(fibre)?.level)
     }
 
     // Empties all rings.
@@ -116,6 +109,6 @@ impl Index {
         ensures lists { (cells : ℕ → ℕ) → lists_in self.new cells ≡ empty_lists }
         ensures room { self.new.capacity ≡ self.old.capacity }
     {
-        self.levels = [0; 12];
+        self.queues = [NO_BYTE; FIBRES];
     }
 }

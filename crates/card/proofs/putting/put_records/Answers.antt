@@ -23,7 +23,7 @@ loop-f-preserved g c =
     let same : n - 0 ≡ n = omega arith in (
       did.room ∙ c.loop-f.invariant.0,
       put_more (s.lists c.args.store.now) c.args.buffers.now c.args.lengths.now (s.lists c.loop-f.store) _ c.loop-f.f _ c.loop-f-test.true
-          (s.sound c.loop-f.store).twelve c.loop-f.invariant.1
+          (g.met.S.Store.sound c.loop-f.store).twelve c.loop-f.invariant.1
           (ap (λ (k : ℕ). take k (get_or c.args.buffers.now c.loop-f.f [])) same) did.lists,
     )
 
@@ -33,6 +33,6 @@ returns g c =
     record {
       lists =
           put_all (s.lists c.args.store.now) c.args.buffers.now c.args.lengths.now (s.lists c.loop-f.store) c.loop-f.f (omega arith)
-          (s.sound c.loop-f.store).twelve c.loop-f.invariant.1;
+          (g.met.S.Store.sound c.loop-f.store).twelve c.loop-f.invariant.1;
       room = c.loop-f.invariant.0;
     }

@@ -8,5 +8,5 @@ returns g c =
     record {
       answer = c.carry_out.ensures.answer;
       run = run_out _ _ _ _ _ _ _ _ _ _ _ (ap g.R.Rule.meaning c.new-card.ensures.rule) c.new-card.ensures.state c.carry_out.ensures.run;
-      laws = laws_of _ (g.met.R.Rule.bounded c.args.rule) c.shifts.ensures _ (g.S.Store.sound c.args.store).limit _;
+      laws = laws_of _ (g.met.R.Rule.bounded c.args.rule) c.shifts.ensures _ (g.met.S.Store.sound c.args.store).limit _;
     }

@@ -24,7 +24,7 @@ loop-f-preserved g c =
     let n = get_or lengths f 0 in
     let more = before_more lengths f in
     let within = before_le lengths (f + 1) (omega arith) in
-    let inside : f < length lists = omega (arith, (s.sound c.args.store.now).twelve) in
+    let inside : f < length lists = omega (arith, (g.met.S.Store.sound c.args.store.now).twelve) in
     let fits : at + n ≤ length c.loop-f.out = omega arith in
     let count : at + n - at ≡ n = omega arith in
     let long = length_part c.loop-f.out at n fits in
@@ -42,7 +42,7 @@ returns g c =
     let lists = s.lists c.args.store.now in
     let end : c.loop-f.f ≡ 12 = omega arith in
     record {
-      lists = c.loop-f.invariant.1 ∙ (ap (lists_before lengths lists) end ∙ lists_all lengths lists (s.sound c.args.store.now).twelve);
+      lists = c.loop-f.invariant.1 ∙ (ap (lists_before lengths lists) end ∙ lists_all lengths lists (g.met.S.Store.sound c.args.store.now).twelve);
       out = c.loop-f.invariant.2 ∙ (ap (written_before lengths lists c.args.out.now) end ∙ written_all lengths lists c.args.out.now);
       room = c.loop-f.invariant.3;
     }

@@ -4,7 +4,7 @@ use Rattle.card.proofs.CardLaws.{laws_after}
 use Rattle.card.proofs.card.Card.fetch.Goals as goal
 
 pub returns-then-not-self : goal.returns-then-not-self
-returns-then-not-self g c = record { step = fetch_refused _ _ _ _ _ c.if-not-self.true; written = refl; slip = refl; rule = refl; laws = laws_after _ (g.met.R.Rule.bounded c.args.self.now.rule) _ _ _ (g.S.Store.sound c.args.self.now.store).limit _ }
+returns-then-not-self g c = record { step = fetch_refused _ _ _ _ _ c.if-not-self.true; written = refl; slip = refl; rule = refl; laws = laws_after _ (g.met.R.Rule.bounded c.args.self.now.rule) _ _ _ (g.met.S.Store.sound c.args.self.now.store).limit _ }
 
 pub returns-then-buffer-length : goal.returns-then-buffer-length
 returns-then-buffer-length g c =
@@ -15,7 +15,7 @@ returns-then-buffer-length g c =
       written = refl;
       slip = refl;
       rule = refl;
-      laws = laws_after _ (g.met.R.Rule.bounded c.args.self.now.rule) _ _ _ (g.S.Store.sound c.args.self.now.store).limit _;
+      laws = laws_after _ (g.met.R.Rule.bounded c.args.self.now.rule) _ _ _ (g.met.S.Store.sound c.args.self.now.store).limit _;
     }
 
 pub returns : goal.returns
@@ -38,5 +38,5 @@ returns g c =
       );
       slip = tt;
       rule = refl {a = c.args.self.now.rule};
-      laws = laws_after _ (g.met.R.Rule.bounded c.args.self.now.rule) _ _ _ (g.S.Store.sound c.args.self.now.store).limit _;
+      laws = laws_after _ (g.met.R.Rule.bounded c.args.self.now.rule) _ _ _ (g.met.S.Store.sound c.args.self.now.store).limit _;
     }

@@ -10,5 +10,5 @@ returns g c =
           ap₂ (λ (lists : List (List ℕ)) (room : ℕ). state_of c.new.result lists room) c.clear.ensures.lists c.clear.ensures.room
           ∙ c.new.ensures _;
       rule = refl;
-      laws = three_laws _ _ (g.S.Store.sound c.args.store).limit (g.met.R.Rule.bounded c.args.rule) [];
+      laws = three_laws _ _ (g.met.S.Store.sound c.args.store).limit (g.met.R.Rule.bounded c.args.rule) [];
     }

@@ -4,7 +4,7 @@ use Rattle.card.proofs.card.Card.take_in.Goals as goal
 
 pub put_records-requires : goal.put_records-requires
 put_records-requires g c =
-    (not_lost_fits _ _ _ _ (g.S.Store.sound c.args.self.now.store).within c.in-None.ensures, c.requires.0.within)
+    (not_lost_fits _ _ _ _ (g.met.S.Store.sound c.args.self.now.store).within c.in-None.ensures, c.requires.0.within)
 
 pub push_back-requires : goal.push_back-requires
 push_back-requires g c = not_lost_few _ _ _ _ c.in-None.ensures

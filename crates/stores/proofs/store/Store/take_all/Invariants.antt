@@ -5,6 +5,8 @@ use Rattle.stores.proofs.store.Store.take_all.Given as goal
 abbrev pub invariant-loop-slot : goal.invariant-loop-slot
 invariant-loop-slot g l =
     let s = g.Self.Store in
-    (s.lists l.self ≡ without (s.lists l.initial.self) l.fibre l.slot-index)
-    × (s.room l.self ≡ s.room l.initial.self)
-    × (l.out ≡ take l.slot-index (waiting (s.lists l.initial.self) l.fibre) ++ drop l.slot-index l.initial.out)
+    record {
+      lists : s.lists l.self ≡ without (s.lists l.initial.self) l.fibre l.slot-index;
+      room : s.room l.self ≡ s.room l.initial.self;
+      out : l.out ≡ take l.slot-index (waiting (s.lists l.initial.self) l.fibre) ++ drop l.slot-index l.initial.out;
+    }

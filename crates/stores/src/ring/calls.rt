@@ -1,34 +1,32 @@
-// A ring of words as a store.
-ghost use Rattle.std.specs.Prelude.{◌≡◌, length};
-ghost use Rattle.stores.specs.Cells.{word_cell, word_cell_small};
+// A ring as a store.
+ghost use Rattle.std.specs.Prelude.{◌≡◌, min};
 ghost use Rattle.stores.specs.Places.{lists_in};
 ghost use Rattle.stores.specs.Sound.{rings_sound};
-ghost use Rattle.stores.specs.Store.{empty_lists, word_capacity};
+ghost use Rattle.stores.specs.Store.{empty_lists, largest};
 
-use super::WordRing;
+use super::Ring;
 use crate::index::Index;
+use crate::memory::Memory;
 use crate::store::Store;
-use crate::word_memory::WordMemory;
-use terms::{FIBRES, Refusal};
+use terms::Refusal;
 
-impl<'a> WordRing<'a> {
-    // An empty store over lent words, whatever they hold: four times a twelfth of them for each fibre, 2,048 at most.
-    pub fn new(memory: &'a mut [u32]) -> WordRing<'a>
-        ensures lists { lists_in result.index (word_cell result.memory.words.now) ≡ empty_lists }
-        ensures room { result.index.capacity ≡ word_capacity (length memory.old) }
+impl<M: Memory> Ring<M> {
+    // An empty store over memory, whatever it holds: a twelfth of it for each fibre, 2,048 at most.
+    pub fn new(memory: M) -> Ring<M>
+        ensures lists { lists_in result.index (M.cells result.memory) ≡ empty_lists }
+        ensures room { result.index.capacity ≡ min (M.share memory) largest }
     {
-        let index = Index::new(4 * (memory.len() / FIBRES));
-        let memory = WordMemory::new(memory);
-        WordRing { index, memory }
+        let index = Index::new(memory.share());
+        Ring { index, memory }
     }
 }
 
-impl<'a> Store for WordRing<'a> {
-    ghost lists = { λ s. lists_in s.index (word_cell s.memory.words.now) };
+impl<M: Memory> Store for Ring<M> {
+    ghost lists = { λ s. lists_in s.index (M.cells s.memory) };
 
     ghost room = { λ s. s.index.capacity };
 
-    ghost sound = { λ s. rings_sound s.index (word_cell s.memory.words.now) (word_cell_small s.memory.words.now) };
+    ghost sound = { λ s. rings_sound s.index (M.cells s.memory) (M.small s.memory) };
 
     fn put(&mut self, fibre: usize, byte: u8) -> Result<(), Refusal> {
         let stretch = self.index.room_for(fibre, 1)?;
@@ -53,6 +51,7 @@ impl<'a> Store for WordRing<'a> {
         self.index.clear();
     }
 
+    // In two pieces: by the trait's own body, byte by byte, a record takes more than twenty times as long.
     fn put_all(&mut self, fibre: usize, bytes: &[u8]) -> Result<(), Refusal> {
         let stretch = self.index.room_for(fibre, bytes.len())?;
         self.memory.lay(stretch, bytes);
