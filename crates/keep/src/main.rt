@@ -14,7 +14,7 @@ use reader::survey_run;
 use std::fs;
 use std::io::{BufWriter, Write};
 use std::process::ExitCode;
-use walk::print_run;
+use walk::Printer;
 
 fn keep(rt: &HostRuntime) -> Result<(), Failure> {
     let Arguments { what, file } = read_arguments(rt)?;
@@ -24,7 +24,12 @@ fn keep(rt: &HostRuntime) -> Result<(), Failure> {
     };
     let survey = survey_run(run.as_slice());
     let mut out = BufWriter::new(rt.alloc(), rt.stdout())?;
-    print_run(&mut out, rt, what, run.as_slice(), survey)?;
+    let mut printer = Printer {
+        out: &mut out,
+        progress: rt,
+        what,
+    };
+    printer.print_run(run.as_slice(), survey)?;
     out.flush()?;
     Ok(())
 }
