@@ -14,22 +14,15 @@ file_offset d = d.start + fault_offset d.fault
 abbrev pub fault_text : Damage → List ℕ
 fault_text d =
     codes "fault "
-    ++ decimal (fault_number d.fault)
-    ++ codes " ("
-    ++ layer_text (fault_layer d.fault)
-    ++ codes "): "
-    ++ event_text d.fault
+    ++ (decimal (fault_number d.fault)
+    ++ (codes " (" ++ (layer_text (fault_layer d.fault) ++ (codes "): " ++ event_text d.fault))))
 
 -- where it is: its offset in its event, and in the file
 abbrev pub place_text : Damage → List ℕ
 place_text d =
     codes ", at byte "
-    ++ decimal (fault_offset d.fault)
-    ++ codes " of event "
-    ++ decimal d.event
-    ++ codes ", byte "
-    ++ decimal (file_offset d)
-    ++ codes " of the file"
+    ++ (decimal (fault_offset d.fault)
+    ++ (codes " of event " ++ (decimal d.event ++ (codes ", byte " ++ (decimal (file_offset d) ++ codes " of the file")))))
 
 abbrev pub damage_text : Damage → List ℕ
 damage_text d = fault_text d ++ place_text d

@@ -11,6 +11,7 @@ use std::io::Write;
 const PROGRESS_STEP: usize = 1000;
 
 // Where a run is printed to, who is told of its progress, and how much of each event is printed.
+#[derive(Drop)]
 pub(crate) struct Printer<'a, O: Write, P: Eprint> {
     pub out: &'a mut O,
     pub progress: &'a P,
