@@ -4,3 +4,4 @@ pub mod Laws
 pub mod Parts
 pub mod Questions
 pub mod Surveys
+pub mod Walks

@@ -1,6 +1,7 @@
 // Reads the clusters of a zero-suppressed record.
-ghost use Rattle.std.specs.Prelude.{◌≡◌, ℕ, ◌+◌, ◌^◌, ◌<◌, ◌≤◌, List, ◌++◌, length, Some, None, ◌≢◌};
-ghost use Rattle.reader.specs.Questions.{ok_map, read_cluster, read_clusters};
+ghost use Rattle.std.specs.Prelude.{◌≡◌, ℕ, ◌+◌, ◌^◌, ◌<◌, ◌≤◌, List, ◌++◌, length, Some, None, Err, ◌≢◌, IfOk, IfErr};
+ghost use Rattle.reader.specs.Questions.{ok_map, verdict, read_cluster, read_clusters};
+ghost use Rattle.reader.specs.Walks.{ClusterPassed};
 ghost use Rattle.std.specs.List.{slice_get, flat_map};
 ghost use Rattle.std.specs.Option as Options;
 ghost use Rattle.layout.specs.Event as layout;
@@ -63,24 +64,44 @@ fn read_cluster<'a>(
     })
 }
 
-// Reads all the clusters that fill the bytes of a record from the offset `at` on, and counts them.
-pub(crate) fn read_clusters(body: &[u8], at: usize) -> Result<usize, ClusterFault>
-    requires { at + length body.now < 2 ^ 64 }
-    ensures { result ≡ ok_map length (read_clusters 0 None at body.now) }
-{
-    let mut left = body;
-    let mut offset = at;
-    let mut before = None;
-    let mut count = 0;
-    while !left.is_empty() {
-        let cluster = read_cluster(left, offset, before)?;
-        let strips = cluster.values.len();
-        before = Some(cluster.run());
-        left = &left[2 + strips..];
-        offset += 2 + strips;
-        count += 1;
+// Reads the clusters of a record one after the other: what is left of it, the offset at which that begins, and the cluster before.
+#[derive(Drop)]
+struct ClusterReader<'a> {
+    left: &'a [u8],
+    at: usize,
+    before: Option<Run>,
+}
+
+impl ClusterReader<'_> {
+    // Reads the next cluster.
+    fn read_next(&mut self) -> Result<(), ClusterFault>
+        requires { self.old.at + length self.old.left.now < 2 ^ 64 }
+        ensures passed { IfOk result (λ _. ClusterPassed self.old self.new) }
+        ensures stopped { IfErr result (λ fault. read_cluster self.old.before self.old.at self.old.left.now ≡ Err fault) }
+    {
+        let cluster = read_cluster(self.left, self.at, self.before)?;
+        let bytes = 2 + cluster.values.len();
+        self.left = &self.left[bytes..];
+        self.at += bytes;
+        self.before = Some(cluster.run());
+        Ok(())
     }
-    Ok(count)
+}
+
+// Reads all the clusters that fill the bytes of a record from the offset `at` on.
+pub(crate) fn read_clusters(body: &[u8], at: usize) -> Result<(), ClusterFault>
+    requires { at + length body.now < 2 ^ 64 }
+    ensures { result ≡ verdict (read_clusters 0 None at body.now) }
+{
+    let mut clusters = ClusterReader {
+        left: body,
+        at,
+        before: None,
+    };
+    while !clusters.left.is_empty() {
+        clusters.read_next()?;
+    }
+    Ok(())
 }
 
 // The cluster at the front of some bytes, and what lies behind it.
