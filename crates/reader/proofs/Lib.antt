@@ -4,6 +4,7 @@ pub mod ContentLaws
 pub mod EventLaws
 pub mod Cuts
 pub mod Fronts
+pub mod ItemLaws
 pub mod RecordLaws
 pub mod Records
 pub mod RunLaws

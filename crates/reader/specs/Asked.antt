@@ -24,6 +24,16 @@ abbrev pub modes_of : Content → Option (Pair ℕ)
 modes_of (suppressed m cs) = Some m
 modes_of (words ws) = None
 
+-- the clusters; a raw record has none
+abbrev pub clusters_of : Content → Option (List Cluster)
+clusters_of (suppressed m cs) = Some cs
+clusters_of (words ws) = None
+
+-- the words; a zero-suppressed record has none
+abbrev pub words_of : Content → Option (List ℕ)
+words_of (suppressed m cs) = None
+words_of (words ws) = Some ws
+
 -- how many clusters; a raw record has no such number
 abbrev pub count_of : Content → Option ℕ
 count_of (suppressed m cs) = Some (length cs)

@@ -1,5 +1,6 @@
 pub mod Asked
 pub mod Examples
+pub mod Items
 pub mod Laws
 pub mod Parts
 pub mod Questions

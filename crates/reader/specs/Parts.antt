@@ -3,13 +3,23 @@
 use Rattle.std.specs.Prelude.{◌≡◌, ℕ, List, ◌++◌, length, Ok, Err, ◌≢◌}
 use Rattle.layout.specs.Event as layout
 use Rattle.reader.specs.declared.cluster.Cluster.{Cluster}
+use Rattle.reader.specs.declared.cluster.Clusters.{Clusters}
+use Rattle.reader.specs.declared.words.Words.{Words}
 use Rattle.reader.specs.declared.event.Event.{Event}
 use Rattle.faults.specs.declared.fault.EventFault.{EventFault}
+use Rattle.reader.specs.Items.{words_in, clusters_in}
 use Rattle.reader.specs.Laws.{StandsFor}
 use Rattle.reader.specs.Questions.{read_first, read_event}
 
 abbrev pub cluster_value : Cluster → layout.Cluster
 cluster_value c = record { address = c.address; values = c.values.now }
+
+-- the clusters that an iterator has still to give, and the words
+abbrev pub clusters_left : Clusters → List layout.Cluster
+clusters_left i = clusters_in i.left.now
+
+abbrev pub words_left : Words → List ℕ
+words_left i = words_in i.left.now
 
 abbrev pub event_bytes : Event → List ℕ
 event_bytes e = e.bytes.now

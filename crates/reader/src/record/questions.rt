@@ -1,14 +1,15 @@
 // What a record holds.
 ghost use Rattle.std.specs.Prelude.{◌≡◌, ℕ, ◌+◌, length};
+ghost use Rattle.std.specs.Option.{option_map};
 ghost use Rattle.layout.specs.declared.kind.Kind.{Kind as KindOf};
 ghost use Rattle.layout.specs.Event.{Content, record_bytes};
-ghost use Rattle.reader.specs.Asked.{HasContent, modes_of, count_of, cluster_of, word_of};
-ghost use Rattle.reader.specs.Parts.{cluster_value};
+ghost use Rattle.reader.specs.Asked.{HasContent, modes_of, clusters_of, count_of, cluster_of, words_of, word_of};
+ghost use Rattle.reader.specs.Parts.{cluster_value, clusters_left, words_left};
 ghost use Rattle.reader.specs.Questions.{ok_map};
 
-use crate::cluster::{Cluster, count_clusters, nth_cluster};
+use crate::cluster::{Cluster, Clusters};
 use crate::record::Record;
-use crate::words::{nth_word, number_in};
+use crate::words::{Words, nth_word, number_in};
 use layout::Kind;
 use terms::{Pair, Refusal};
 
@@ -39,25 +40,39 @@ impl<'a> Record<'a> {
         }
     }
 
+    // The clusters, in their order; none in a raw record.
+    pub fn clusters(&self) -> Option<Clusters<'a>>
+        ensures { (k : KindOf) (c : Content) → HasContent self.now k c → option_map clusters_left result ≡ clusters_of c }
+    {
+        match (self.kind, self.content) {
+            (Kind::ZeroSuppressed, [_, _, _, _, clusters @ ..]) => Some(Clusters::new(clusters)),
+            _ => None,
+        }
+    }
+
     // The number of clusters; none in a raw record.
     pub fn cluster_count(&self) -> Option<usize>
         ensures { (k : KindOf) (c : Content) → HasContent self.now k c → result ≡ count_of c }
     {
-        match (self.kind, self.content) {
-            (Kind::ZeroSuppressed, [_, _, _, _, clusters @ ..]) => Some(count_clusters(clusters)),
-            _ => None,
-        }
+        let clusters = self.clusters()?;
+        Some(clusters.count())
     }
 
     // The cluster of an index, counted from 0. Refused with 33 in a raw record, and with 32 past the last.
     pub fn cluster(&self, index: usize) -> Result<Cluster<'a>, Refusal>
         ensures { (k : KindOf) (c : Content) → HasContent self.now k c → ok_map cluster_value result ≡ cluster_of c index }
     {
-        match (self.kind, self.content) {
-            (Kind::ZeroSuppressed, [_, _, _, _, clusters @ ..]) => {
-                nth_cluster(clusters, index).ok_or(Refusal::NoSuchCluster)
-            }
-            _ => Err(Refusal::NotZeroSuppressed),
+        let mut clusters = self.clusters().ok_or(Refusal::NotZeroSuppressed)?;
+        clusters.nth(index).ok_or(Refusal::NoSuchCluster)
+    }
+
+    // The words of a raw record, in their order; none in a zero-suppressed one.
+    pub fn words(&self) -> Option<Words<'a>>
+        ensures { (k : KindOf) (c : Content) → HasContent self.now k c → option_map words_left result ≡ words_of c }
+    {
+        match self.kind {
+            Kind::ZeroSuppressed => None,
+            Kind::ProcessedRaw | Kind::VirginRaw => Some(Words::new(self.content)),
         }
     }
 
