@@ -6,7 +6,7 @@ pub mod Cuts
 pub mod Fronts
 pub mod ItemLaws
 pub mod RecordLaws
-pub mod Records
+pub mod PartLaws
 pub mod RunLaws
 pub mod Steps
 pub mod Surveys
