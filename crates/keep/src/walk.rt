@@ -72,8 +72,9 @@ impl<O: Write, P: Eprint> Printer<'_, O, P> {
         writeln!(self.out, "event {index}: {bytes} bytes")?;
         print_column(self.out, event)?;
         match self.what {
-            What::Column => Ok(()),
-            What::Everything => print_contents(self.out, event),
+            What::Column => {}
+            What::Everything => print_contents(self.out, event)?,
         }
+        Ok(())
     }
 }

@@ -174,3 +174,8 @@ kept_accepted bs v bytes ok is = ap is_ok ((exactly_the_layout bs v bytes).1 (ok
 
 pub kept_kind : (bs : List ℕ) (v : Event) (k : Kind) → EventOk v → bs ≡ bytes_of v → k ≡ v.kind → code k ≡ get_or bs 2 0
 kept_kind bs v k ok is kind = ap code kind ∙ (sym (code_byte v.kind v.contents ok.0) ∙ ap (λ ys. get_or ys 2 0) (sym is))
+
+pub twelve_given : (k : Kind) (cs : List Content) (given : List (Kind × Content)) → length cs ≡ 12 → given ≡ with_kind k cs → length given ≡ 12
+twelve_given k cs given twelve is =
+    let pair : Content → Kind × Content = λ c. (k, c) in
+    ap length is ∙ (length-map cs pair ∙ twelve)

@@ -104,7 +104,7 @@ pub(crate) fn read_clusters(body: &[u8], at: usize) -> Result<(), ClusterFault>
 }
 
 // The clusters in some bytes, one after the other.
-#[derive(Clone, Copy, Drop)]
+#[derive(Drop)]
 pub struct Clusters<'a> {
     left: &'a [u8],
 }

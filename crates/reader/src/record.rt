@@ -10,7 +10,7 @@ pub mod questions;
 pub(crate) mod reading;
 pub(crate) mod splitting;
 
-#[derive(Clone, Copy, Drop)]
+#[derive(Clone, Copy)]
 pub struct Record<'a> {
     kind: Kind,
     content: &'a [u8],
@@ -18,7 +18,7 @@ pub struct Record<'a> {
 }
 
 // Records of one kind, one after the other.
-#[derive(Clone, Copy, Drop)]
+#[derive(Drop)]
 pub struct Records<'a> {
     kind: Kind,
     left: &'a [u8],

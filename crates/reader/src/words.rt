@@ -17,7 +17,7 @@ pub(crate) fn number_in(lo: u8, hi: u8) -> u16
 }
 
 // The words in some bytes, two bytes each.
-#[derive(Clone, Copy, Drop)]
+#[derive(Drop)]
 pub struct Words<'a> {
     left: &'a [u8],
 }

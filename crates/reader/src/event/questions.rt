@@ -26,7 +26,8 @@ impl<'a> Event<'a> {
 
     // Its records, in fibre order.
     pub fn records(&self) -> Records<'a>
-        ensures { let v = value_of self.now in records_left result ≡ map (λ c. (v.kind, c)) v.contents }
+        ensures given { let v = value_of self.now in records_left result ≡ map (λ c. (v.kind, c)) v.contents }
+        ensures twelve { length (records_left result) ≡ 12 }
     {
         Records::new(self.kind, self.bytes)
     }
