@@ -70,8 +70,8 @@ impl<'a> Record<'a> {
         ensures { option_map words_left result ≡ words_of (content_of self.now) }
     {
         match self.kind {
-            Kind::ZeroSuppressed => None,
             Kind::ProcessedRaw | Kind::VirginRaw => Some(Words::new(self.content)),
+            _ => None,
         }
     }
 
