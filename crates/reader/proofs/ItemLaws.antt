@@ -1,15 +1,13 @@
 -- Words and clusters one after the other, step by step.
 -- Assumes nothing.
-use Rattle.std.proofs.Common.{◌≡◌, ℕ, zero, suc, ◌+◌, ◌*◌, ◌<◌, ◌≤◌, ◌⊎◌, inl, inr, Bool, true, false, leb, ltb, Some, None, Ok, Err, Option, Result, List, [], ◌∷◌, ◌++◌, length, get_or, take, drop, sym, refl, ap, ◌∙◌, subst, ap₂, arith, length-append}
-use Rattle.std.proofs.lemmas.Bool.{le-leb, lt-leb, leb-true, leb-false, lt-ltb, le-ltb, cond-true, cond-false, cond_both}
+use Rattle.std.proofs.Common.{◌≡◌, ℕ, zero, suc, ◌+◌, ◌*◌, ◌<◌, ◌≤◌, Bool, true, false, leb, ltb, Some, None, Ok, Err, Option, Result, List, [], ◌∷◌, ◌++◌, length, get_or, take, drop, sym, refl, ap, ◌∙◌, subst, ap₂, arith, length-append}
+use Rattle.std.proofs.lemmas.Bool.{le-leb, leb-true, leb-false, lt-ltb, le-ltb, cond-true, cond-false, cond_both}
 use Rattle.std.proofs.lemmas.List.{take_at, drop_at}
 use Rattle.std.proofs.lemmas.Option.{slice_get_past}
 use Rattle.std.specs.List.{flat_map, position_from, slice_get}
 use Rattle.std.specs.Option.{option_map, ok_or}
-use Rattle.terms.specs.declared.refusal.Refusal.TheVariants.{NoSuchCluster, NotZeroSuppressed}
-use Rattle.layout.specs.declared.kind.Kind.{Kind}
-use Rattle.layout.specs.declared.kind.Kind.TheVariants.{ZeroSuppressed, ProcessedRaw, VirginRaw}
-use Rattle.layout.specs.Event.{Cluster, cluster_bytes, word, Content, suppressed, words, ContentOk, content_bytes}
+use Rattle.terms.specs.declared.refusal.Refusal.TheVariants.{NoSuchCluster}
+use Rattle.layout.specs.Event.{Cluster, cluster_bytes, word, Content, suppressed, words}
 use Rattle.reader.specs.declared.cluster.Cluster as parts
 use Rattle.reader.specs.Asked.{clusters_of, present, cluster_of}
 use Rattle.reader.specs.Parts.{cluster_value}
@@ -26,18 +24,6 @@ skip_bytes : (n : ℕ) (xs : List ℕ) → clusters_from n xs ≡ clusters_in (d
 skip_bytes zero xs = refl
 skip_bytes (suc n) [] = refl
 skip_bytes (suc n) (x ∷ xs) = skip_bytes n xs
-
--- no header, so no cluster
-pub no_header : (xs : List ℕ) → length xs < 2 → clusters_in xs ≡ []
-no_header [] h = refl
-no_header (a ∷ []) h = refl
-no_header (a ∷ n ∷ xs) h = absurd (omega arith)
-
--- fewer bytes than the header says
-pub not_whole : (xs : List ℕ) → length (drop 2 xs) < get_or xs 1 0 → clusters_in xs ≡ []
-not_whole [] h = refl
-not_whole (a ∷ []) h = refl
-not_whole (a ∷ n ∷ xs) h = cond-false (leb n (length xs)) _ _ (lt-leb n (length xs) h)
 
 pub one_cluster :
     (xs values rest : List ℕ) (n : ℕ) →
@@ -70,17 +56,6 @@ clusters_back (c ∷ cs) =
 pub words_back : (ws : List ℕ) → words_in (flat_map word ws) ≡ ws
 words_back [] = refl
 words_back (w ∷ ws) = ap₂ (λ v vs. v ∷ vs) (number_of_word w) (words_back ws)
-
--- two bytes are a word
-pub one_word : (xs : List ℕ) → 2 ≤ length xs → words_in xs ≡ number_in (get_or xs 0 0) (get_or xs 1 0) ∷ words_in (drop 2 xs)
-one_word [] h = absurd (omega arith)
-one_word (x ∷ []) h = absurd (omega arith)
-one_word (lo ∷ hi ∷ xs) h = refl
-
-pub no_word : (xs : List ℕ) → length xs < 2 → words_in xs ≡ []
-no_word [] h = refl
-no_word (x ∷ []) h = refl
-no_word (lo ∷ hi ∷ xs) h = absurd (omega arith)
 
 pub words_few : (xs : List ℕ) → 2 * length (words_in xs) ≤ length xs
 words_few [] = omega arith
@@ -141,18 +116,6 @@ word_at (lo ∷ hi ∷ xs) (suc i) h =
 pub word_past : (xs : List ℕ) (i : ℕ) → length xs ≤ 2 * i + 1 → slice_get (words_in xs) i ≡ None
 word_past xs i h = let few = words_few xs in slice_get_past (words_in xs) i (omega arith)
 
--- a raw record's content is its words
-pub raw_words : (raw k : Kind) (c : Content) (xs : List ℕ) → ContentOk k c → xs ≡ content_bytes c → raw ≡ k → (raw ≡ ProcessedRaw) ⊎ (raw ≡ VirginRaw) → c ≡ words (words_in xs)
-raw_words raw ZeroSuppressed c xs ok is same two =
-    elim two [
-      | inl h ↦ absurd (let z : ◌≡◌ {A = ℕ} 0 1 = cc in omega arith)
-      | inr h ↦ absurd (let z : ◌≡◌ {A = ℕ} 0 1 = cc in omega arith)
-    ]
-raw_words raw ProcessedRaw (suppressed m cs) xs ok is same two = absurd ok
-raw_words raw ProcessedRaw (words ws) xs ok is same two = ap words (sym (words_back ws) ∙ ap words_in (sym is))
-raw_words raw VirginRaw (suppressed m cs) xs ok is same two = absurd ok
-raw_words raw VirginRaw (words ws) xs ok is same two = ap words (sym (words_back ws) ∙ ap words_in (sym is))
-
 pub ok_or_some : {A E : Type 0} (o : Option A) (e : E) (x : A) → Ok x ≡ ok_or o e → o ≡ Some x
 ok_or_some None e x h = absurd (ok_err e x h)
 ok_or_some (Some y) e x h = ap Some (sym (ok_same x y h))
@@ -166,8 +129,3 @@ there (Some c) = refl
 pub cluster_there : (c : Content) (left : List Cluster) (o : Option parts.Cluster) (i : ℕ) → Some left ≡ clusters_of c → option_map cluster_value o ≡ slice_get left i → ok_map cluster_value (ok_or o NoSuchCluster) ≡ cluster_of c i
 cluster_there (suppressed m cs) left o i h n = there o ∙ ap present (n ∙ ap (λ l. slice_get l i) (some_same left cs h))
 cluster_there (words ws) left o i h n = absurd (none_some left (sym h))
-
--- and where it has none
-pub cluster_nowhere : (c : Content) (i : ℕ) → None ≡ clusters_of c → Err NotZeroSuppressed ≡ cluster_of c i
-cluster_nowhere (suppressed m cs) i h = absurd (none_some cs h)
-cluster_nowhere (words ws) i h = refl

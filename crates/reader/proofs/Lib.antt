@@ -2,7 +2,6 @@ pub mod Asks
 pub mod ClusterLaws
 pub mod ContentLaws
 pub mod EventLaws
-pub mod Cuts
 pub mod Fronts
 pub mod ItemLaws
 pub mod RecordLaws

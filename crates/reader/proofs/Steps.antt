@@ -1,16 +1,16 @@
 -- One step of each reader: what its questions come to where they are answered yes.
 -- Assumes nothing.
-use Rattle.std.proofs.Common.{◌≡◌, ℕ, suc, ◌+◌, ◌-◌, ◌<◌, ◌≤◌, Bool, true, false, List, [], ◌∷◌, length, get_or, take, drop, Some, None, Ok, Err, Option, Result, sym, refl, ap, ◌∙◌, ap₂, arith, length-drop}
-use Rattle.std.proofs.lemmas.Bool.{le-leb, and_from}
+use Rattle.std.proofs.Common.{◌≡◌, ℕ, suc, ◌+◌, ◌-◌, ◌≤◌, Bool, true, false, List, [], ◌∷◌, length, get_or, take, drop, Some, None, Ok, Err, Option, Result, sym, refl, ap, ◌∙◌, ap₂, arith, length-drop}
+use Rattle.std.proofs.lemmas.Bool.{le-leb}
 use Rattle.layout.specs.declared.kind.Kind.{Kind}
 use Rattle.layout.specs.declared.run.Run.{Run}
 use Rattle.std.specs.Option.{option_map}
-use Rattle.layout.specs.Event.{Cluster, run_of, Content, suppressed, code, shortest, longest}
+use Rattle.layout.specs.Event.{Cluster, run_of, Content, suppressed, code}
 use Rattle.layout.specs.Places.{placed}
 use Rattle.faults.specs.declared.fault.ClusterFault.{ClusterFault}
 use Rattle.faults.specs.declared.fault.RecordFault.{RecordFault}
 use Rattle.faults.specs.declared.fault.RecordFault.TheVariants as records
-use Rattle.reader.specs.Questions.{ask, ok_map, err_map, verdict, behind, number_in, mode_in, read_cluster, read_clusters, read_words, read_suppressed, read_content, read_body, read_record, read_records, and_then, Walked, ends_at, with_content}
+use Rattle.reader.specs.Questions.{ask, ok_map, err_map, verdict, behind, number_in, mode_in, read_cluster, read_clusters, read_suppressed, read_record, read_records, and_then, Walked, ends_at, with_content}
 use Rattle.reader.specs.declared.event.reading.RecordReader.{RecordReader}
 use Rattle.reader.specs.Walks.{ends, Passed}
 use Rattle.reader.proofs.Asks.{err_ok, err_same}
@@ -39,24 +39,9 @@ pub verdict_map : {A B E : Type 0} (f : A → B) (r : Result A E) → verdict (o
 verdict_map f (Ok x) = refl
 verdict_map f (Err e) = refl
 
-pub word_taken : (at : ℕ) (xs : List ℕ) → 2 ≤ length xs → number_in (get_or xs 0 0) (get_or xs 1 0) ≤ 1023 → verdict (read_words at xs) ≡ verdict (read_words (at + 2) (drop 2 xs))
-word_taken at [] h s = absurd (omega arith)
-word_taken at (lo ∷ []) h s = absurd (omega arith)
-word_taken at (lo ∷ hi ∷ xs) h s = ap verdict (asked _ _ _ (le-leb (number_in lo hi) 1023 s)) ∙ verdict_map _ (read_words (at + 2) xs)
-
 -- one cluster is read: the walk goes on behind it
 pub clusters_next : (b : Option Run) (at : ℕ) (xs : List ℕ) (c : Cluster) → read_cluster b at xs ≡ Ok c → verdict (read_clusters 0 b at xs) ≡ verdict (read_clusters 0 (Some (run_of c)) (at + (2 + length c.values)) (drop (2 + length c.values) xs))
 clusters_next b at xs c h = ap verdict (next_cluster b at xs c h).1 ∙ verdict_map _ _
-
--- one cluster is at fault: so is the walk
-pub clusters_fault : (b : Option Run) (at : ℕ) (xs : List ℕ) (f : ClusterFault) → 0 < length xs → read_cluster b at xs ≡ Err f → verdict (read_clusters 0 b at xs) ≡ Err f
-clusters_fault b at [] f some h = absurd (omega arith)
-clusters_fault b at (x ∷ xs) f some h = ap (λ r. verdict (and_then r (λ c. ok_map (λ cs. c ∷ cs) (read_clusters (1 + length c.values) (Some (run_of c)) (at + 1) xs)))) h
-
--- no byte is left: all clusters are read
-pub clusters_end : (b : Option Run) (at : ℕ) (xs : List ℕ) → length xs ≡ 0 → verdict (read_clusters 0 b at xs) ≡ Ok tt
-clusters_end b at [] z = refl
-clusters_end b at (x ∷ xs) z = absurd (omega arith)
 
 -- both common modes have ten bits: the rest is up to the clusters
 abbrev pub clusters_left : ℕ → List ℕ → Result (List Cluster) ClusterFault
@@ -78,10 +63,6 @@ suppressed_ok at xs l r e = verdict_ok _ _ (clusters_left at xs) e ∙ ap verdic
 
 pub suppressed_err : (at : ℕ) (xs : List ℕ) (f : ClusterFault) → mode_in 0 xs ≤ 1023 → mode_in 2 xs ≤ 1023 → Err f ≡ verdict (clusters_left at xs) → Err (records.Cluster f) ≡ verdict (read_suppressed at xs)
 suppressed_err at xs f l r e = verdict_err _ _ (clusters_left at xs) f e ∙ ap verdict (sym (modes_taken at xs l r))
-
-pub body_taken : (k : Kind) (at n : ℕ) (xs : List ℕ) → shortest k ≤ n → n ≤ longest k → n ≤ 3 + length xs → read_body k at n xs ≡ read_content k (at + 3) (take (n - 3) xs)
-body_taken k at n xs low high inside =
-    asked _ _ _ (and_from _ _ (le-leb (shortest k) n low) (le-leb n (longest k) high)) ∙ asked _ _ _ (le-leb n (3 + length xs) inside)
 
 -- a content that was read without a fault
 pub content_from : {E : Type 0} (r : Result Content E) → Ok tt ≡ verdict r → (c : Content) × (r ≡ Ok c)
@@ -126,23 +107,6 @@ record_fits first at (lo ∷ hi ∷ c ∷ xs) l h =
     let got = content_from (read_record first at size c xs) h in
     let is = record_at first at size c xs got.0 got.1 in
     (omega (arith, seven is.kind, is.from_shortest), omega (arith, is.inside))
-
--- one record is at fault: so is the walk
-pub records_fault : (n m : ℕ) (first : Option ℕ) (at : ℕ) (xs : List ℕ) (f : RecordFault) → n ≡ suc m → 3 ≤ length xs → Err f ≡ verdict (record_there first at xs) → ok_map ends_at (read_records n first at xs) ≡ Err (events.Record f)
-records_fault n m first at [] f e l h = absurd (omega arith)
-records_fault n m first at (a ∷ []) f e l h = absurd (omega arith)
-records_fault n m first at (a ∷ b ∷ []) f e l h = absurd (omega arith)
-records_fault n m first at (lo ∷ hi ∷ c ∷ xs) f e l h =
-    ap (λ k. ok_map ends_at (read_records k first at (lo ∷ hi ∷ c ∷ xs))) e
-    ∙ ap (λ r. ok_map ends_at (and_then (err_map events.Record r) (λ d. ok_map (with_content d) (read_records m (Some c) (at + number_in lo hi) (drop (number_in lo hi - 3) xs)))))
-    (verdict_fault (read_record first at (number_in lo hi) c xs) f h)
-
--- no header: so ends the walk
-pub records_short : (n m : ℕ) (first : Option ℕ) (at : ℕ) (xs : List ℕ) → n ≡ suc m → length xs < 3 → ok_map ends_at (read_records n first at xs) ≡ Err (events.NoHeader at)
-records_short n m first at [] e l = ap (λ k. ok_map ends_at (read_records k first at [])) e
-records_short n m first at (a ∷ []) e l = ap (λ k. ok_map ends_at (read_records k first at (a ∷ []))) e
-records_short n m first at (a ∷ b ∷ []) e l = ap (λ k. ok_map ends_at (read_records k first at (a ∷ b ∷ []))) e
-records_short n m first at (a ∷ b ∷ c ∷ xs) e l = absurd (omega arith)
 
 -- one record is passed over with all its bytes
 pub record_passed :
