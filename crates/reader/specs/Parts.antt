@@ -31,6 +31,10 @@ content_of r = content_in r.kind r.content.now
 abbrev pub record_value : Record → Kind × layout.Content
 record_value r = (r.kind, content_of r)
 
+-- the records of an event, in fibre order
+abbrev pub records_of : layout.Event → List (Kind × layout.Content)
+records_of v = map (λ c. (v.kind, c)) v.contents
+
 -- the records that an iterator has still to give
 abbrev pub records_left : Records → List (Kind × layout.Content)
 records_left i = map (λ c. (i.kind, c)) (contents_in i.kind i.left.now)

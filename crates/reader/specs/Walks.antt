@@ -4,6 +4,7 @@ use Rattle.std.specs.Prelude.{◌≡◌, ℕ, suc, ◌+◌, length, drop, Some, 
 use Rattle.std.specs.Option.{option_map}
 use Rattle.layout.specs.declared.kind.Kind.{Kind}
 use Rattle.layout.specs.Event.{Cluster, run_of, code}
+use Rattle.faults.specs.declared.fault.ClusterFault.{ClusterFault}
 use Rattle.faults.specs.declared.fault.EventFault.{EventFault}
 use Rattle.reader.specs.declared.cluster.ClusterReader.{ClusterReader}
 use Rattle.reader.specs.declared.event.reading.RecordReader.{RecordReader}
@@ -31,3 +32,7 @@ pub record ClusterPassed (old new : ClusterReader) : Type 0 where
   pub before : new.before ≡ Some (run_of value)
   pub at : new.at ≡ old.at + (2 + length value.values)
   pub left : new.left.now ≡ drop (2 + length value.values) old.left.now
+
+-- no cluster was read: this is why
+abbrev pub ClusterStopped : ClusterReader → ClusterFault → Type 0
+ClusterStopped old fault = read_cluster old.before old.at old.left.now ≡ Err fault

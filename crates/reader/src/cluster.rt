@@ -1,7 +1,7 @@
 // Reads the clusters of a zero-suppressed record.
 ghost use Rattle.std.specs.Prelude.{◌≡◌, ℕ, ◌+◌, ◌^◌, ◌<◌, ◌≤◌, List, ◌++◌, length, Some, None, Err, ◌≢◌, IfOk, IfErr};
 ghost use Rattle.reader.specs.Questions.{ok_map, verdict, read_cluster, read_clusters};
-ghost use Rattle.reader.specs.Walks.{ClusterPassed};
+ghost use Rattle.reader.specs.Walks.{ClusterPassed, ClusterStopped};
 ghost use Rattle.std.specs.Iterator.{YieldsFirstBy, item_count};
 ghost use Rattle.layout.specs.Event.{run_of};
 ghost use Rattle.reader.specs.Items.{clusters_in};
@@ -76,7 +76,7 @@ impl ClusterReader<'_> {
     fn read_next(&mut self) -> Result<(), ClusterFault>
         requires { self.old.at + length self.old.left.now < 2 ^ 64 }
         ensures passed { IfOk result (λ _. ClusterPassed self.old self.new) }
-        ensures stopped { IfErr result (λ fault. read_cluster self.old.before self.old.at self.old.left.now ≡ Err fault) }
+        ensures stopped { IfErr result (ClusterStopped self.old) }
     {
         let cluster = read_cluster(self.left, self.at, self.before)?;
         let bytes = 2 + cluster.values.len();

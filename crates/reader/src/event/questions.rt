@@ -1,8 +1,8 @@
 // What an event holds.
-ghost use Rattle.std.specs.Prelude.{◌≡◌, ℕ, ◌≤◌, length, map, MatchResult};
+ghost use Rattle.std.specs.Prelude.{◌≡◌, ℕ, ◌≤◌, length, MatchResult};
 ghost use Rattle.terms.specs.declared.refusal.Refusal.TheVariants.{NoSuchFibre};
 ghost use Rattle.reader.specs.Asked.{RecordOf};
-ghost use Rattle.reader.specs.Parts.{records_left, value_of, event_bytes};
+ghost use Rattle.reader.specs.Parts.{records_left, records_of, value_of, event_bytes};
 
 use crate::event::Event;
 use crate::record::{Record, Records};
@@ -26,7 +26,7 @@ impl<'a> Event<'a> {
 
     // Its records, in fibre order.
     pub fn records(&self) -> Records<'a>
-        ensures given { let v = value_of self.now in records_left result ≡ map (λ c. (v.kind, c)) v.contents }
+        ensures given { records_left result ≡ records_of (value_of self.now) }
         ensures twelve { length (records_left result) ≡ 12 }
     {
         Records::new(self.kind, self.bytes)
