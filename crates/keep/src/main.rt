@@ -18,10 +18,7 @@ use walk::Printer;
 
 fn keep(rt: &HostRuntime) -> Result<(), Failure> {
     let Arguments { what, file } = read_arguments(rt)?;
-    let run = match fs::read(rt, file.as_str()) {
-        Ok(run) => run,
-        Err(error) => return Err(Failure::Unreadable(file, error)),
-    };
+    let run = fs::read(rt, file.as_str()).map_err(|error| Failure::Unreadable(file, error))?;
     let survey = survey_run(run.as_slice());
     let mut out = BufWriter::new(rt.alloc(), rt.stdout())?;
     let mut printer = Printer {

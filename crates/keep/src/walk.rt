@@ -52,16 +52,13 @@ impl<O: Write, P: Eprint> Printer<'_, O, P> {
                 eprintln!(self.progress; "event {index} of {events}")?;
             }
             let start = run.len().saturating_sub(left.len());
-            let (event, rest) = match read_first(left) {
-                Ok(found) => found,
-                Err(fault) => {
-                    return Err(Failure::Damaged(Damage {
-                        event: index,
-                        start,
-                        fault,
-                    }));
-                }
-            };
+            let (event, rest) = read_first(left).map_err(|fault| {
+                Failure::Damaged(Damage {
+                    event: index,
+                    start,
+                    fault,
+                })
+            })?;
             self.print_event(index, &event)?;
             left = rest;
         }
