@@ -86,10 +86,10 @@ impl ClusterFault {
         ensures { result ≡ cluster_offset self }
     {
         match self {
-            ClusterFault::NoHeader(at) => at,
-            ClusterFault::BadLength(at) => at,
-            ClusterFault::DataOutside(at) => at,
-            ClusterFault::OutOfOrder(at) => at,
+            ClusterFault::NoHeader(at)
+            | ClusterFault::BadLength(at)
+            | ClusterFault::DataOutside(at)
+            | ClusterFault::OutOfOrder(at) => at,
         }
     }
 }
@@ -121,11 +121,11 @@ impl RecordFault {
         ensures { result ≡ record_offset self }
     {
         match self {
-            RecordFault::UnknownCode(at) => at,
-            RecordFault::OtherKind(at) => at,
-            RecordFault::LengthRange(at) => at,
-            RecordFault::Outside(at) => at,
-            RecordFault::TooLarge(at) => at,
+            RecordFault::UnknownCode(at)
+            | RecordFault::OtherKind(at)
+            | RecordFault::LengthRange(at)
+            | RecordFault::Outside(at)
+            | RecordFault::TooLarge(at) => at,
             RecordFault::Cluster(fault) => fault.offset(),
         }
     }
@@ -155,9 +155,8 @@ impl EventFault {
         ensures { result ≡ fault_offset self }
     {
         match self {
-            EventFault::NoHeader(at) => at,
+            EventFault::NoHeader(at) | EventFault::LeftOver(at) => at,
             EventFault::Record(fault) => fault.offset(),
-            EventFault::LeftOver(at) => at,
         }
     }
 }

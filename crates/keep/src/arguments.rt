@@ -19,10 +19,7 @@ pub struct Arguments {
 
 // Reads the arguments: one file, and an option before or behind it.
 pub(crate) fn read_arguments(rt: &HostRuntime) -> Result<Arguments, Failure> {
-    let words = match env::args(rt) {
-        Ok(words) => words,
-        Err(_) => return Err(Failure::NoMemory),
-    };
+    let words = env::args(rt).map_err(|_| Failure::NoMemory)?;
     let mut what = What::Everything;
     let mut file = None;
     for word in words.skip(1) {
@@ -36,8 +33,6 @@ pub(crate) fn read_arguments(rt: &HostRuntime) -> Result<Arguments, Failure> {
             file = Some(word);
         }
     }
-    match file {
-        Some(file) => Ok(Arguments { what, file }),
-        None => Err(Failure::NoFile),
-    }
+    let file = file.ok_or(Failure::NoFile)?;
+    Ok(Arguments { what, file })
 }

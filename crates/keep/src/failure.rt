@@ -1,7 +1,6 @@
 // What ends the program with status 1, in words.
 use crate::damage::Damage;
 use std::{fmt, io};
-use terms::Refusal;
 
 const USAGE: &str = "usage: keep [--column] FILE";
 
@@ -15,8 +14,6 @@ pub enum Failure {
     Unreadable(String, io::Error),
     // The output cannot be written.
     Unwritable(io::Error),
-    // A record does not answer a question on it.
-    Refused(Refusal),
     // The run is damaged.
     Damaged(Damage),
 }
@@ -30,10 +27,6 @@ impl fmt::Display for Failure {
             Failure::NoMemory => write!(f, "no memory for the arguments"),
             Failure::Unreadable(file, error) => write!(f, "cannot read {file}: {error}"),
             Failure::Unwritable(error) => write!(f, "cannot write: {error}"),
-            Failure::Refused(refusal) => {
-                let number = refusal.number();
-                write!(f, "a record refuses a question on it: {number}")
-            }
             Failure::Damaged(damage) => write!(f, "{damage}"),
         }
     }
@@ -42,11 +35,5 @@ impl fmt::Display for Failure {
 impl From<io::Error> for Failure {
     fn from(error: io::Error) -> Failure {
         Failure::Unwritable(error)
-    }
-}
-
-impl From<Refusal> for Failure {
-    fn from(refusal: Refusal) -> Failure {
-        Failure::Refused(refusal)
     }
 }

@@ -14,17 +14,19 @@ use reader::survey_run;
 use std::fs;
 use std::io::{BufWriter, Write};
 use std::process::ExitCode;
-use walk::print_run;
+use walk::Printer;
 
 fn keep(rt: &HostRuntime) -> Result<(), Failure> {
     let Arguments { what, file } = read_arguments(rt)?;
-    let run = match fs::read(rt, file.as_str()) {
-        Ok(run) => run,
-        Err(error) => return Err(Failure::Unreadable(file, error)),
-    };
+    let run = fs::read(rt, file.as_str()).map_err(|error| Failure::Unreadable(file, error))?;
     let survey = survey_run(run.as_slice());
     let mut out = BufWriter::new(rt.alloc(), rt.stdout())?;
-    print_run(&mut out, rt, what, run.as_slice(), survey)?;
+    let mut printer = Printer {
+        out: &mut out,
+        progress: rt,
+        what,
+    };
+    printer.print_run(run.as_slice(), survey)?;
     out.flush()?;
     Ok(())
 }

@@ -10,77 +10,69 @@ use std::io::Write;
 // A long run shows its progress once for so many events.
 const PROGRESS_STEP: usize = 1000;
 
-// Prints the events of a run, and what the survey of it has found at their end.
-pub(crate) fn print_run<O: Write>(
-    out: &mut O,
-    progress: &impl Eprint,
-    what: What,
-    run: &[u8],
-    survey: Survey,
-) -> Result<(), Failure> {
-    let Survey { events, end, fault } = survey;
-    if run.is_empty() {
-        writeln!(out, "no events: the file is empty")?;
-        return Ok(());
-    }
-    print_events(out, progress, what, run, events)?;
-    match fault {
-        Some(fault) => {
-            out.flush()?;
-            Err(Failure::Damaged(Damage {
-                event: events,
-                start: end,
-                fault,
-            }))
-        }
-        None => {
-            writeln!(out, "{events} events, {end} bytes")?;
-            Ok(())
-        }
-    }
+// Where a run is printed to, who is told of its progress, and how much of each event is printed.
+#[derive(Drop)]
+pub(crate) struct Printer<'a, O: Write, P: Eprint> {
+    pub out: &'a mut O,
+    pub progress: &'a P,
+    pub what: What,
 }
 
-// Prints so many events from the start of a run.
-fn print_events<O: Write>(
-    out: &mut O,
-    progress: &impl Eprint,
-    what: What,
-    run: &[u8],
-    events: usize,
-) -> Result<(), Failure> {
-    let mut left = run;
-    for index in 0..events {
-        if index > 0 && index % PROGRESS_STEP == 0 {
-            eprintln!(progress; "event {index} of {events}")?;
+impl<O: Write, P: Eprint> Printer<'_, O, P> {
+    // Prints the events of a run, and what the survey of it has found at their end.
+    pub fn print_run(&mut self, run: &[u8], survey: Survey) -> Result<(), Failure> {
+        let Survey { events, end, fault } = survey;
+        if run.is_empty() {
+            writeln!(self.out, "no events: the file is empty")?;
+            return Ok(());
         }
-        let start = run.len().saturating_sub(left.len());
-        let (event, rest) = match read_first(left) {
-            Ok(found) => found,
-            Err(fault) => {
-                return Err(Failure::Damaged(Damage {
+        self.print_events(run, events)?;
+        match fault {
+            Some(fault) => {
+                self.out.flush()?;
+                Err(Failure::Damaged(Damage {
+                    event: events,
+                    start: end,
+                    fault,
+                }))
+            }
+            None => {
+                writeln!(self.out, "{events} events, {end} bytes")?;
+                Ok(())
+            }
+        }
+    }
+
+    // Prints so many events from the start of a run. The survey counted them and kept none, so each is read again
+    // from what is left.
+    fn print_events(&mut self, run: &[u8], events: usize) -> Result<(), Failure> {
+        let mut left = run;
+        for index in 0..events {
+            if index > 0 && index % PROGRESS_STEP == 0 {
+                eprintln!(self.progress; "event {index} of {events}")?;
+            }
+            let start = run.len().saturating_sub(left.len());
+            let (event, rest) = read_first(left).map_err(|fault| {
+                Failure::Damaged(Damage {
                     event: index,
                     start,
                     fault,
-                }));
-            }
-        };
-        print_event(out, what, index, &event)?;
-        left = rest;
+                })
+            })?;
+            self.print_event(index, &event)?;
+            left = rest;
+        }
+        Ok(())
     }
-    Ok(())
-}
 
-fn print_event<O: Write>(
-    out: &mut O,
-    what: What,
-    index: usize,
-    event: &Event<'_>,
-) -> Result<(), Failure> {
-    let bytes = event.size();
-    writeln!(out, "event {index}: {bytes} bytes")?;
-    print_column(out, event)?;
-    match what {
-        What::Column => Ok(()),
-        What::Everything => print_contents(out, event),
+    fn print_event(&mut self, index: usize, event: &Event<'_>) -> Result<(), Failure> {
+        let bytes = event.size();
+        writeln!(self.out, "event {index}: {bytes} bytes")?;
+        print_column(self.out, event)?;
+        match self.what {
+            What::Column => {}
+            What::Everything => print_contents(self.out, event)?,
+        }
+        Ok(())
     }
 }

@@ -2,10 +2,10 @@ pub mod Asks
 pub mod ClusterLaws
 pub mod ContentLaws
 pub mod EventLaws
-pub mod Cuts
 pub mod Fronts
+pub mod ItemLaws
 pub mod RecordLaws
-pub mod Records
+pub mod PartLaws
 pub mod RunLaws
 pub mod Steps
 pub mod Surveys

@@ -1,15 +1,18 @@
 -- One step of each reader: what its questions come to where they are answered yes.
 -- Assumes nothing.
-use Rattle.std.proofs.Common.{◌≡◌, ℕ, suc, ◌+◌, ◌-◌, ◌<◌, ◌≤◌, Bool, true, false, List, [], ◌∷◌, length, get_or, take, drop, Some, None, Ok, Err, Option, Result, sym, refl, ap, ◌∙◌, ap₂, add-zero, arith}
-use Rattle.std.proofs.lemmas.Bool.{le-leb, and_from}
+use Rattle.std.proofs.Common.{◌≡◌, ℕ, suc, ◌+◌, ◌-◌, ◌≤◌, Bool, true, false, List, [], ◌∷◌, length, get_or, take, drop, Some, None, Ok, Err, Option, Result, sym, refl, ap, ◌∙◌, ap₂, arith, length-drop}
+use Rattle.std.proofs.lemmas.Bool.{le-leb}
 use Rattle.layout.specs.declared.kind.Kind.{Kind}
 use Rattle.layout.specs.declared.run.Run.{Run}
-use Rattle.layout.specs.Event.{Cluster, run_of, Content, suppressed, shortest, longest}
+use Rattle.std.specs.Option.{option_map}
+use Rattle.layout.specs.Event.{Cluster, run_of, Content, suppressed, code}
 use Rattle.layout.specs.Places.{placed}
 use Rattle.faults.specs.declared.fault.ClusterFault.{ClusterFault}
 use Rattle.faults.specs.declared.fault.RecordFault.{RecordFault}
 use Rattle.faults.specs.declared.fault.RecordFault.TheVariants as records
-use Rattle.reader.specs.Questions.{ask, ok_map, err_map, verdict, behind, number_in, mode_in, read_cluster, read_clusters, read_words, read_suppressed, read_content, read_body, read_record, read_records, and_then, Walked, ends_at, with_content}
+use Rattle.reader.specs.Questions.{ask, ok_map, err_map, verdict, behind, number_in, mode_in, read_cluster, read_clusters, read_suppressed, read_record, read_records, and_then, Walked, ends_at, with_content}
+use Rattle.reader.specs.declared.event.reading.RecordReader.{RecordReader}
+use Rattle.reader.specs.Walks.{ends, Passed}
 use Rattle.reader.proofs.Asks.{err_ok, err_same}
 use Rattle.faults.specs.declared.fault.EventFault.TheVariants as events
 use Rattle.reader.proofs.Walk.{next_cluster, record_at, seven}
@@ -36,24 +39,9 @@ pub verdict_map : {A B E : Type 0} (f : A → B) (r : Result A E) → verdict (o
 verdict_map f (Ok x) = refl
 verdict_map f (Err e) = refl
 
-pub word_taken : (at : ℕ) (xs : List ℕ) → 2 ≤ length xs → number_in (get_or xs 0 0) (get_or xs 1 0) ≤ 1023 → verdict (read_words at xs) ≡ verdict (read_words (at + 2) (drop 2 xs))
-word_taken at [] h s = absurd (omega arith)
-word_taken at (lo ∷ []) h s = absurd (omega arith)
-word_taken at (lo ∷ hi ∷ xs) h s = ap verdict (asked _ _ _ (le-leb (number_in lo hi) 1023 s)) ∙ verdict_map _ (read_words (at + 2) xs)
-
--- a count of clusters goes up by one with the next
-count_more : {E : Type 0} (k : ℕ) (c : Cluster) (r : Result (List Cluster) E) → ok_map (λ cs. k + 1 + length cs) r ≡ ok_map (λ cs. k + length cs) (ok_map (λ cs. c ∷ cs) r)
-count_more k c (Ok cs) = ap Ok (omega arith)
-count_more k c (Err e) = refl
-
-pub count_next : (k : ℕ) (b : Option Run) (at : ℕ) (xs rest : List ℕ) (c : Cluster) (run : Run) (all : Result ℕ ClusterFault) → read_cluster b at xs ≡ Ok c → run ≡ run_of c → rest ≡ drop (2 + length c.values) xs → ok_map (λ cs. k + length cs) (read_clusters 0 b at xs) ≡ all → ok_map (λ cs. k + 1 + length cs) (read_clusters 0 (Some run) (at + (2 + length c.values)) rest) ≡ all
-count_next k b at xs rest c run all h r l i =
-    ap₂ (λ (u : Run) (ys : List ℕ). ok_map (λ cs. k + 1 + length cs) (read_clusters 0 (Some u) (at + (2 + length c.values)) ys)) r l
-    ∙ (count_more k c _ ∙ (ap (ok_map (λ cs. k + length cs)) (sym (next_cluster b at xs c h).1) ∙ i))
-
-pub count_end : (k : ℕ) (b : Option Run) (at : ℕ) (xs : List ℕ) (all : Result ℕ ClusterFault) → length xs ≡ 0 → ok_map (λ cs. k + length cs) (read_clusters 0 b at xs) ≡ all → Ok k ≡ all
-count_end k b at [] all z i = ap Ok (sym (add-zero k)) ∙ i
-count_end k b at (x ∷ xs) all z i = absurd (omega arith)
+-- one cluster is read: the walk goes on behind it
+pub clusters_next : (b : Option Run) (at : ℕ) (xs : List ℕ) (c : Cluster) → read_cluster b at xs ≡ Ok c → verdict (read_clusters 0 b at xs) ≡ verdict (read_clusters 0 (Some (run_of c)) (at + (2 + length c.values)) (drop (2 + length c.values) xs))
+clusters_next b at xs c h = ap verdict (next_cluster b at xs c h).1 ∙ verdict_map _ _
 
 -- both common modes have ten bits: the rest is up to the clusters
 abbrev pub clusters_left : ℕ → List ℕ → Result (List Cluster) ClusterFault
@@ -62,23 +50,19 @@ clusters_left at xs = read_clusters 0 None (at + 4) (drop 4 xs)
 modes_taken : (at : ℕ) (xs : List ℕ) → mode_in 0 xs ≤ 1023 → mode_in 2 xs ≤ 1023 → read_suppressed at xs ≡ err_map records.Cluster (ok_map (suppressed (record { left = mode_in 0 xs; right = mode_in 2 xs })) (clusters_left at xs))
 modes_taken at xs l r = asked _ _ _ (le-leb (mode_in 0 xs) 1023 l) ∙ asked _ _ _ (le-leb (mode_in 2 xs) 1023 r)
 
-verdict_ok : {A B C E F : Type 0} (f : A → B) (g : E → F) (h : A → C) (r : Result A E) (x : C) → Ok x ≡ ok_map h r → Ok tt ≡ verdict (err_map g (ok_map f r))
-verdict_ok f g h (Ok y) x e = refl
-verdict_ok f g h (Err y) x e = absurd (err_ok y x (sym e))
+verdict_ok : {A B E F : Type 0} (f : A → B) (g : E → F) (r : Result A E) → Ok tt ≡ verdict r → Ok tt ≡ verdict (err_map g (ok_map f r))
+verdict_ok f g (Ok y) e = refl
+verdict_ok f g (Err y) e = absurd (err_ok y tt (sym e))
 
-verdict_err : {A B C E F : Type 0} (f : A → B) (g : E → F) (h : A → C) (r : Result A E) (y : E) → Err y ≡ ok_map h r → Err (g y) ≡ verdict (err_map g (ok_map f r))
-verdict_err f g h (Ok x) y e = absurd (err_ok y (h x) e)
-verdict_err f g h (Err z) y e = ap (λ w. Err (g w)) (err_same y z e)
+verdict_err : {A B E F : Type 0} (f : A → B) (g : E → F) (r : Result A E) (y : E) → Err y ≡ verdict r → Err (g y) ≡ verdict (err_map g (ok_map f r))
+verdict_err f g (Ok x) y e = absurd (err_ok y tt e)
+verdict_err f g (Err z) y e = ap (λ w. Err (g w)) (err_same y z e)
 
-pub suppressed_ok : (at : ℕ) (xs : List ℕ) (n : ℕ) → mode_in 0 xs ≤ 1023 → mode_in 2 xs ≤ 1023 → Ok n ≡ ok_map length (clusters_left at xs) → Ok tt ≡ verdict (read_suppressed at xs)
-suppressed_ok at xs n l r e = verdict_ok _ _ length (clusters_left at xs) n e ∙ ap verdict (sym (modes_taken at xs l r))
+pub suppressed_ok : (at : ℕ) (xs : List ℕ) → mode_in 0 xs ≤ 1023 → mode_in 2 xs ≤ 1023 → Ok tt ≡ verdict (clusters_left at xs) → Ok tt ≡ verdict (read_suppressed at xs)
+suppressed_ok at xs l r e = verdict_ok _ _ (clusters_left at xs) e ∙ ap verdict (sym (modes_taken at xs l r))
 
-pub suppressed_err : (at : ℕ) (xs : List ℕ) (f : ClusterFault) → mode_in 0 xs ≤ 1023 → mode_in 2 xs ≤ 1023 → Err f ≡ ok_map length (clusters_left at xs) → Err (records.Cluster f) ≡ verdict (read_suppressed at xs)
-suppressed_err at xs f l r e = verdict_err _ _ length (clusters_left at xs) f e ∙ ap verdict (sym (modes_taken at xs l r))
-
-pub body_taken : (k : Kind) (at n : ℕ) (xs : List ℕ) → shortest k ≤ n → n ≤ longest k → n ≤ 3 + length xs → read_body k at n xs ≡ read_content k (at + 3) (take (n - 3) xs)
-body_taken k at n xs low high inside =
-    asked _ _ _ (and_from _ _ (le-leb (shortest k) n low) (le-leb n (longest k) high)) ∙ asked _ _ _ (le-leb n (3 + length xs) inside)
+pub suppressed_err : (at : ℕ) (xs : List ℕ) (f : ClusterFault) → mode_in 0 xs ≤ 1023 → mode_in 2 xs ≤ 1023 → Err f ≡ verdict (clusters_left at xs) → Err (records.Cluster f) ≡ verdict (read_suppressed at xs)
+suppressed_err at xs f l r e = verdict_err _ _ (clusters_left at xs) f e ∙ ap verdict (sym (modes_taken at xs l r))
 
 -- a content that was read without a fault
 pub content_from : {E : Type 0} (r : Result Content E) → Ok tt ≡ verdict r → (c : Content) × (r ≡ Ok c)
@@ -124,19 +108,27 @@ record_fits first at (lo ∷ hi ∷ c ∷ xs) l h =
     let is = record_at first at size c xs got.0 got.1 in
     (omega (arith, seven is.kind, is.from_shortest), omega (arith, is.inside))
 
--- one record is at fault: so is the walk
-pub records_fault : (n m : ℕ) (first : Option ℕ) (at : ℕ) (xs : List ℕ) (f : RecordFault) → n ≡ suc m → 3 ≤ length xs → Err f ≡ verdict (record_there first at xs) → ok_map ends_at (read_records n first at xs) ≡ Err (events.Record f)
-records_fault n m first at [] f e l h = absurd (omega arith)
-records_fault n m first at (a ∷ []) f e l h = absurd (omega arith)
-records_fault n m first at (a ∷ b ∷ []) f e l h = absurd (omega arith)
-records_fault n m first at (lo ∷ hi ∷ c ∷ xs) f e l h =
-    ap (λ k. ok_map ends_at (read_records k first at (lo ∷ hi ∷ c ∷ xs))) e
-    ∙ ap (λ r. ok_map ends_at (and_then (err_map events.Record r) (λ d. ok_map (with_content d) (read_records m (Some c) (at + number_in lo hi) (drop (number_in lo hi - 3) xs)))))
-    (verdict_fault (read_record first at (number_in lo hi) c xs) f h)
-
--- no header: so ends the walk
-pub records_short : (n m : ℕ) (first : Option ℕ) (at : ℕ) (xs : List ℕ) → n ≡ suc m → length xs < 3 → ok_map ends_at (read_records n first at xs) ≡ Err (events.NoHeader at)
-records_short n m first at [] e l = ap (λ k. ok_map ends_at (read_records k first at [])) e
-records_short n m first at (a ∷ []) e l = ap (λ k. ok_map ends_at (read_records k first at (a ∷ []))) e
-records_short n m first at (a ∷ b ∷ []) e l = ap (λ k. ok_map ends_at (read_records k first at (a ∷ b ∷ []))) e
-records_short n m first at (a ∷ b ∷ c ∷ xs) e l = absurd (omega arith)
+-- one record is passed over with all its bytes
+pub record_passed :
+    (first : Option Kind) (old new : RecordReader) (size : ℕ) (kind : Kind) →
+    3 ≤ length old.left.now →
+    size ≡ number_in (get_or old.left.now 0 0) (get_or old.left.now 1 0) →
+    Ok tt ≡ verdict (record_there (option_map code first) old.at old.left.now) →
+    get_or old.left.now 2 0 ≡ code kind →
+    ((f : Kind) → first ≡ Some f → kind ≡ f) →
+    new.left.now ≡ drop size old.left.now →
+    new.at ≡ old.at + size →
+    Passed first old new kind
+record_passed first old new size kind long said there is same left at =
+    let xs : List ℕ = old.left.now in
+    let codes : Option ℕ = option_map code first in
+    let fits = record_fits codes old.at xs long there in
+    let rest : length new.left.now ≡ length xs - size = ap length left ∙ length-drop size xs in
+    let sum : old.at + size + (length xs - size) ≡ old.at + length xs = omega (arith, fits.1, said) in
+    let next : (n : ℕ) → ends (suc n) first old ≡ ok_map ends_at (read_records n (Some (code kind)) (old.at + size) (drop size xs)) = λ n. records_next (suc n) n codes old.at xs refl long there ∙ ap₂ (λ k c. ok_map ends_at (read_records n (Some c) (old.at + k) (drop k xs))) (sym said) is in
+    record {
+      others = λ n. next n ∙ ap₂ (λ a ys. ok_map ends_at (read_records n (Some (code kind)) a ys)) (sym at) (sym left);
+      within = ap₂ (λ a b. a + b) at rest ∙ sum;
+      code_is = is;
+      same = same;
+    }

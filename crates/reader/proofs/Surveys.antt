@@ -29,10 +29,6 @@ pub record Walking (run left : List ℕ) (count end : ℕ) : Type 0 where
   pub few : count ≤ end
   pub walk : survey 0 0 run ≡ with_events events (survey 0 end left)
 
-pub walk_none : (run : List ℕ) → Walking run run 0 0
-walk_none run =
-    record { events = []; before = (tt, refl); counted = refl; behind = refl; within = omega arith; few = omega arith; walk = refl }
-
 joined_push : (es : List Event) (e : Event) → flat_map bytes_of (es ++ e ∷ []) ≡ flat_map bytes_of es ++ bytes_of e
 joined_push [] e = append-nil (bytes_of e)
 joined_push (d ∷ es) e = ap (λ l. bytes_of d ++ l) (joined_push es e) ∙ sym (append_assoc (bytes_of d) (flat_map bytes_of es) (bytes_of e))

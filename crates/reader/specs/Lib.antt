@@ -1,6 +1,8 @@
 pub mod Asked
 pub mod Examples
+pub mod Items
 pub mod Laws
 pub mod Parts
 pub mod Questions
 pub mod Surveys
+pub mod Walks

@@ -1,11 +1,11 @@
 // Reads the clusters of a zero-suppressed record.
-ghost use Rattle.std.specs.Prelude.{◌≡◌, ℕ, ◌+◌, ◌^◌, ◌<◌, ◌≤◌, List, ◌++◌, length, Some, None, ◌≢◌};
-ghost use Rattle.reader.specs.Questions.{ok_map, read_cluster, read_clusters};
-ghost use Rattle.std.specs.List.{slice_get, flat_map};
-ghost use Rattle.std.specs.Option as Options;
-ghost use Rattle.layout.specs.Event as layout;
-ghost use Rattle.layout.specs.Event.{run_of, cluster_bytes};
-ghost use Rattle.reader.specs.Parts.{cluster_value};
+ghost use Rattle.std.specs.Prelude.{◌≡◌, ℕ, ◌+◌, ◌^◌, ◌<◌, ◌≤◌, List, ◌++◌, length, Some, None, Err, ◌≢◌, IfOk, IfErr};
+ghost use Rattle.reader.specs.Questions.{ok_map, verdict, read_cluster, read_clusters};
+ghost use Rattle.reader.specs.Walks.{ClusterPassed, ClusterStopped};
+ghost use Rattle.std.specs.Iterator.{YieldsFirstBy, item_count};
+ghost use Rattle.layout.specs.Event.{run_of};
+ghost use Rattle.reader.specs.Items.{clusters_in};
+ghost use Rattle.reader.specs.Parts.{cluster_value, clusters_left};
 
 use faults::ClusterFault;
 use layout::Run;
@@ -63,64 +63,78 @@ fn read_cluster<'a>(
     })
 }
 
-// Reads all the clusters that fill the bytes of a record from the offset `at` on, and counts them.
-pub(crate) fn read_clusters(body: &[u8], at: usize) -> Result<usize, ClusterFault>
+// Reads the clusters of a record one after the other: what is left of it, the offset at which that begins, and the cluster before.
+#[derive(Drop)]
+struct ClusterReader<'a> {
+    left: &'a [u8],
+    at: usize,
+    before: Option<Run>,
+}
+
+impl ClusterReader<'_> {
+    // Reads the next cluster.
+    fn read_next(&mut self) -> Result<(), ClusterFault>
+        requires { self.old.at + length self.old.left.now < 2 ^ 64 }
+        ensures passed { IfOk result (λ _. ClusterPassed self.old self.new) }
+        ensures stopped { IfErr result (ClusterStopped self.old) }
+    {
+        let cluster = read_cluster(self.left, self.at, self.before)?;
+        let bytes = 2 + cluster.values.len();
+        self.left = &self.left[bytes..];
+        self.at += bytes;
+        self.before = Some(cluster.run());
+        Ok(())
+    }
+}
+
+// Reads all the clusters that fill the bytes of a record from the offset `at` on.
+pub(crate) fn read_clusters(body: &[u8], at: usize) -> Result<(), ClusterFault>
     requires { at + length body.now < 2 ^ 64 }
-    ensures { result ≡ ok_map length (read_clusters 0 None at body.now) }
+    ensures { result ≡ verdict (read_clusters 0 None at body.now) }
 {
-    let mut left = body;
-    let mut offset = at;
-    let mut before = None;
-    let mut count = 0;
-    while !left.is_empty() {
-        let cluster = read_cluster(left, offset, before)?;
-        let strips = cluster.values.len();
-        before = Some(cluster.run());
-        left = &left[2 + strips..];
-        offset += 2 + strips;
-        count += 1;
-    }
-    Ok(count)
-}
-
-// The cluster at the front of some bytes, and what lies behind it.
-fn split_cluster<'a>(left: &'a [u8]) -> Option<(Cluster<'a>, &'a [u8])>
-    ensures { Options.MatchOption result ((c : layout.Cluster) (rest : List ℕ) → left.now ≢ cluster_bytes c ++ rest) (λ p. left.now ≡ cluster_bytes (cluster_value p.0) ++ p.1.now) }
-{
-    let [address, strips, data @ ..] = left else {
-        return None;
+    let mut clusters = ClusterReader {
+        left: body,
+        at,
+        before: None,
     };
-    let strips = usize::from(*strips);
-    if data.len() < strips {
-        return None;
+    while !clusters.left.is_empty() {
+        clusters.read_next()?;
     }
-    let (values, rest) = data.split_at(strips);
-    let address = *address;
-    Some((Cluster { address, values }, rest))
+    Ok(())
 }
 
-// How many clusters there are, one after the other.
-pub(crate) fn count_clusters(body: &[u8]) -> usize
-    ensures { (cs : List layout.Cluster) → body.now ≡ flat_map cluster_bytes cs → result ≡ length cs }
-{
-    let mut left = body;
-    let mut count = 0;
-    while let Some((_, rest)) = split_cluster(left) {
-        left = rest;
-        count += 1;
-    }
-    count
+// The clusters in some bytes, one after the other.
+#[derive(Drop)]
+pub struct Clusters<'a> {
+    left: &'a [u8],
 }
 
-// The cluster of an index among clusters one after the other.
-pub(crate) fn nth_cluster<'a>(body: &'a [u8], index: usize) -> Option<Cluster<'a>>
-    ensures { (cs : List layout.Cluster) → body.now ≡ flat_map cluster_bytes cs → Options.option_map cluster_value result ≡ slice_get cs index }
-{
-    let mut left = body;
-    for _passed in 0..index {
-        let (_, rest) = split_cluster(left)?;
-        left = rest;
+impl<'a> Clusters<'a> {
+    pub(crate) fn new(bytes: &'a [u8]) -> Clusters<'a>
+        ensures { clusters_left result ≡ clusters_in bytes.now }
+    {
+        Clusters { left: bytes }
     }
-    let (cluster, _) = split_cluster(left)?;
-    Some(cluster)
+}
+
+impl<'a> Iterator for Clusters<'a> {
+    type Item = Cluster<'a>;
+
+    ghost next_gives = { YieldsFirstBy cluster_value clusters_left };
+
+    ghost remaining = { item_count clusters_left };
+
+    fn next(&mut self) -> Option<Cluster<'a>> {
+        let [address, strips, data @ ..] = self.left else {
+            return None;
+        };
+        let strips = usize::from(*strips);
+        if data.len() < strips {
+            return None;
+        }
+        let (values, rest) = data.split_at(strips);
+        let address = *address;
+        self.left = rest;
+        Some(Cluster { address, values })
+    }
 }

@@ -6,12 +6,13 @@ ghost use Rattle.reader.specs.Questions.{verdict, read_suppressed, read_content}
 use crate::cluster::read_clusters;
 use crate::words::{number_in, read_words};
 use faults::RecordFault;
-use layout::{Kind, ProcessedRaw, RecordKind, VirginRaw, ZeroSuppressed};
+use layout::Kind;
 use terms::LARGEST;
 
 // Both common modes, then the clusters, from the offset `at` on.
 fn read_suppressed(content: &[u8], at: usize) -> Result<(), RecordFault>
-    requires { (4 ≤ length content.now) × (at + length content.now < 2 ^ 64) }
+    requires modes { 4 ≤ length content.now }
+    requires within { at + length content.now < 2 ^ 64 }
     ensures { result ≡ verdict (read_suppressed at content.now) }
 {
     let [left_lo, left_hi, right_lo, right_hi, clusters @ ..] = content else {
@@ -23,47 +24,18 @@ fn read_suppressed(content: &[u8], at: usize) -> Result<(), RecordFault>
     if number_in(*right_lo, *right_hi) > LARGEST {
         return Err(RecordFault::TooLarge(at + 2));
     }
-    let _count = read_clusters(clusters, at + 4)?;
+    read_clusters(clusters, at + 4)?;
     Ok(())
 }
 
-// A kind of record whose content can be read.
-pub(crate) trait ReadKind: RecordKind {
-    fn kind_of_record() -> Kind
-        ensures { result ≡ Self.RecordKind.kind };
-
-    // The questions of a content, from the offset `at` on.
-    fn read_content(content: &[u8], at: usize) -> Result<(), RecordFault>
-        requires { (shortest Self.RecordKind.kind ≤ 3 + length content.now) × (at + length content.now < 2 ^ 64) }
-        ensures { result ≡ verdict (read_content Self.RecordKind.kind at content.now) };
-}
-
-impl ReadKind for ZeroSuppressed {
-    fn kind_of_record() -> Kind {
-        Kind::ZeroSuppressed
-    }
-
-    fn read_content(content: &[u8], at: usize) -> Result<(), RecordFault> {
-        read_suppressed(content, at)
-    }
-}
-
-impl ReadKind for ProcessedRaw {
-    fn kind_of_record() -> Kind {
-        Kind::ProcessedRaw
-    }
-
-    fn read_content(content: &[u8], at: usize) -> Result<(), RecordFault> {
-        read_words(content, at)
-    }
-}
-
-impl ReadKind for VirginRaw {
-    fn kind_of_record() -> Kind {
-        Kind::VirginRaw
-    }
-
-    fn read_content(content: &[u8], at: usize) -> Result<(), RecordFault> {
-        read_words(content, at)
+// The questions of the content of a record of a kind, from the offset `at` on.
+pub(crate) fn read_content(kind: Kind, content: &[u8], at: usize) -> Result<(), RecordFault>
+    requires long { shortest kind ≤ 3 + length content.now }
+    requires within { at + length content.now < 2 ^ 64 }
+    ensures { result ≡ verdict (read_content kind at content.now) }
+{
+    match kind {
+        Kind::ZeroSuppressed => read_suppressed(content, at),
+        Kind::ProcessedRaw | Kind::VirginRaw => read_words(content, at),
     }
 }

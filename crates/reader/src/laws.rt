@@ -1,5 +1,6 @@
 // What the reader's questions amount to, for those who build on them.
 ghost use Rattle.reader.specs.Examples.{WorkedExamples};
+ghost use Rattle.reader.specs.Asked.{OneContent, OneEvent};
 ghost use Rattle.reader.specs.Laws.{ComesBack, ExactlyInFront, ExactlyTheLayout, ExactlyTheRun, UpToTheDamage};
 
 // An input is read as an event if and only if its bytes are those of that event; so is the front of a longer
@@ -15,6 +16,12 @@ pub fn layout_stands()
 pub fn run_stands()
     ensures exactly { ExactlyTheRun }
     ensures damaged { UpToTheDamage }
+{}
+
+// An event and a record have the only value that their bytes can stand for.
+pub fn parts_stand()
+    ensures event { OneEvent }
+    ensures content { OneContent }
 {}
 
 // A record worked by hand.

@@ -7,11 +7,12 @@ pub mod event;
 pub mod laws;
 pub mod record;
 pub mod stored;
-mod words;
+pub mod words;
 
-pub use cluster::Cluster;
+pub use cluster::{Cluster, Clusters};
 pub use event::Event;
 pub use event::reading::{read_event, read_first};
-pub use laws::{layout_stands, run_stands, worked_examples_stand};
-pub use record::Record;
+pub use laws::{layout_stands, parts_stand, run_stands, worked_examples_stand};
+pub use record::{Record, Records};
 pub use stored::{Survey, survey_run};
+pub use words::Words;

@@ -17,28 +17,24 @@ pub struct Survey {
 pub fn survey_run(run: &[u8]) -> Survey
     ensures { Surveyed run.now result }
 {
+    let mut survey = Survey {
+        events: 0,
+        end: 0,
+        fault: None,
+    };
     let mut left = run;
-    let mut events = 0;
-    let mut end = 0;
     while !left.is_empty() {
         match read_first(left) {
             Ok((event, rest)) => {
+                survey.events += 1;
+                survey.end += event.size();
                 left = rest;
-                end += event.size();
-                events += 1;
             }
             Err(fault) => {
-                return Survey {
-                    events,
-                    end,
-                    fault: Some(fault),
-                };
+                survey.fault = Some(fault);
+                return survey;
             }
         }
     }
-    Survey {
-        events,
-        end,
-        fault: None,
-    }
+    survey
 }

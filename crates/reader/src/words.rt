@@ -1,7 +1,9 @@
 // Reads the ten-bit words of a record.
 ghost use Rattle.std.specs.Prelude.{◌≡◌, ℕ, ◌+◌, ◌^◌, ◌<◌, List, length};
-ghost use Rattle.std.specs.List.{slice_get, flat_map};
-ghost use Rattle.layout.specs.Event.{word};
+ghost use Rattle.std.specs.Iterator.{YieldsFirst, item_count};
+ghost use Rattle.std.specs.List.{slice_get};
+ghost use Rattle.reader.specs.Items.{words_in};
+ghost use Rattle.reader.specs.Parts.{words_left};
 ghost use Rattle.reader.specs.Questions.{verdict, number_in, read_words};
 
 use faults::RecordFault;
@@ -14,26 +16,50 @@ pub(crate) fn number_in(lo: u8, hi: u8) -> u16
     u16::from(lo) + 256 * u16::from(hi)
 }
 
+// The words in some bytes, two bytes each.
+#[derive(Drop)]
+pub struct Words<'a> {
+    left: &'a [u8],
+}
+
+impl Words<'_> {
+    pub(crate) fn new(bytes: &[u8]) -> Words<'_>
+        ensures { words_left result ≡ words_in bytes.now }
+    {
+        Words { left: bytes }
+    }
+}
+
+impl Iterator for Words<'_> {
+    type Item = u16;
+
+    ghost next_gives = { YieldsFirst words_left };
+
+    ghost remaining = { item_count words_left };
+
+    fn next(&mut self) -> Option<u16> {
+        let [lo, hi, rest @ ..] = self.left else {
+            return None;
+        };
+        self.left = rest;
+        Some(number_in(*lo, *hi))
+    }
+}
+
 // Reads all words of a raw record's content, which begins at the offset `at`.
 pub(crate) fn read_words(content: &[u8], at: usize) -> Result<(), RecordFault>
     requires { at + length content.now < 2 ^ 64 }
     ensures { result ≡ verdict (read_words at content.now) }
 {
-    let mut left = content;
-    let mut offset = at;
-    while let [lo, hi, rest @ ..] = left {
-        if number_in(*lo, *hi) > LARGEST {
-            return Err(RecordFault::TooLarge(offset));
-        }
-        left = rest;
-        offset += 2;
+    match Words::new(content).position(|word| word > LARGEST) {
+        Some(index) => Err(RecordFault::TooLarge(at + 2 * index)),
+        None => Ok(()),
     }
-    Ok(())
 }
 
 // The word of an index among words one after the other.
 pub(crate) fn nth_word(content: &[u8], index: usize) -> Option<u16>
-    ensures { (ws : List ℕ) → content.now ≡ flat_map word ws → result ≡ slice_get ws index }
+    ensures { result ≡ slice_get (words_in content.now) index }
 {
     if index >= content.len() / 2 {
         return None;

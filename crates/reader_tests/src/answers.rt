@@ -7,10 +7,7 @@ use terms::{Pair, Refusal};
 
 // The number of a refusal, if it is one.
 fn refusal<T: Drop>(answer: Result<T, Refusal>) -> Option<u8> {
-    match answer {
-        Ok(_) => None,
-        Err(refusal) => Some(refusal.number()),
-    }
+    answer.err().map(|refusal| refusal.number())
 }
 
 #[test]
@@ -20,6 +17,7 @@ fn suppressed_event_answers(rt: HostRuntime) -> Result<(), Fail> {
     let event = read_event(bytes.as_slice())?;
     assert_eq!(rt; event.kind(), Kind::ZeroSuppressed);
     assert_eq!(rt; event.size(), 104);
+    assert_eq!(rt; event.records().count(), 12);
     let table = [
         (0, 11, 100, 300, 1),
         (1, 7, 0, 1023, 0),
@@ -34,7 +32,9 @@ fn suppressed_event_answers(rt: HostRuntime) -> Result<(), Fail> {
         assert_eq!(rt; record.common_modes(), Some(Pair { left, right }));
         assert_eq!(rt; record.cluster_count(), Some(clusters));
         assert_eq!(rt; refusal(record.cluster(clusters)), Some(32));
+        assert_eq!(rt; record.clusters().map(|list| list.count()), Some(clusters));
         assert_eq!(rt; record.word(0), None);
+        assert!(rt; record.words().is_none());
     }
     assert_eq!(rt; refusal(event.record(12)), Some(3));
     Ok(())
@@ -82,8 +82,13 @@ fn raw_event_answers(rt: HostRuntime) -> Result<(), Fail> {
         assert_eq!(rt; record.size(), 515);
         assert_eq!(rt; record.word(index), Some(word));
         assert_eq!(rt; record.word(256), None);
+        assert_eq!(rt;
+            record.words().and_then(|mut list| list.nth(index)),
+            Some(word)
+        );
         assert_eq!(rt; record.common_modes(), None);
         assert_eq!(rt; record.cluster_count(), None);
+        assert!(rt; record.clusters().is_none());
         assert_eq!(rt; refusal(record.cluster(0)), Some(33));
     }
     Ok(())

@@ -10,16 +10,13 @@ type Found = (u8, Layer, usize);
 
 // What is wrong with an input; None where it is an event.
 fn wrong(input: &[u8]) -> Option<Found> {
-    match read_event(input) {
-        Ok(_) => None,
-        Err(fault) => Some((fault.number(), fault.layer(), fault.offset())),
-    }
+    let fault = read_event(input).err()?;
+    Some((fault.number(), fault.layer(), fault.offset()))
 }
 
 // Each row of the table: one byte of a good event, what it becomes, and what is wrong then.
 fn check_damages(rt: &impl Abort, event: &mut Vec<u8>, table: &[(usize, u8, Option<Found>)]) {
-    for row in table {
-        let (at, value, expected) = *row;
+    for &(at, value, expected) in table {
         assert!(rt; at < event.len());
         let good = event[at];
         event[at] = value;

@@ -1,29 +1,22 @@
 // The good events that the tests start from.
 use std::test::Fail;
 
-// Appends bytes.
-fn push_all(event: &mut Vec<u8>, bytes: &[u8]) -> Result<(), Fail> {
-    for byte in bytes {
-        event.push(*byte)?;
-    }
-    Ok(())
-}
-
 // Appends a zero-suppressed event of 104 bytes. Fibre 0 is at 0, fibre 1 at 11, fibre 2 at 18, and fibres 3 to 11
 // stand seven bytes apart from 38 on.
 pub(crate) fn push_suppressed(event: &mut Vec<u8>) -> Result<(), Fail> {
     // Common modes 100 and 300, strips 5 and 6.
-    push_all(event, &[11, 0, 0xEA, 100, 0, 44, 1, 5, 2, 30, 40])?;
+    event.extend_from_slice(&[11, 0, 0xEA, 100, 0, 44, 1, 5, 2, 30, 40])?;
     // The smallest and the largest common mode.
-    push_all(event, &[7, 0, 0xEA, 0, 0, 255, 3])?;
+    event.extend_from_slice(&[7, 0, 0xEA, 0, 0, 255, 3])?;
     // Strips 0, 3, 126 and 127, 128: as near to each other as they may be.
-    push_all(event, &[20, 0, 0xEA, 1, 0, 2, 0])?;
-    push_all(event, &[0, 1, 9, 3, 1, 255, 126, 2, 7, 8, 128, 1, 42])?;
+    event.extend_from_slice(&[20, 0, 0xEA, 1, 0, 2, 0])?;
+    event.extend_from_slice(&[0, 1, 9, 3, 1, 255, 126, 2, 7, 8, 128, 1, 42])?;
     for fibre in 3..11u8 {
-        push_all(event, &[7, 0, 0xEA, fibre, 0, 0, 0])?;
+        event.extend_from_slice(&[7, 0, 0xEA, fibre, 0, 0, 0])?;
     }
     // The last strip.
-    push_all(event, &[10, 0, 0xEA, 100, 0, 100, 0, 255, 1, 128])
+    event.extend_from_slice(&[10, 0, 0xEA, 100, 0, 100, 0, 255, 1, 128])?;
+    Ok(())
 }
 
 // The offsets of its records.
@@ -32,9 +25,9 @@ pub const SUPPRESSED_STARTS: [usize; 12] = [0, 11, 18, 38, 45, 52, 59, 66, 73, 8
 // Appends a raw event of 6180 bytes with a packet code: word i of fibre f is i + 256 (f mod 4), up to 1023.
 pub(crate) fn push_raw(event: &mut Vec<u8>, code: u8) -> Result<(), Fail> {
     for fibre in 0..12u8 {
-        push_all(event, &[3, 2, code])?;
+        event.extend_from_slice(&[3, 2, code])?;
         for low in 0..=255u8 {
-            push_all(event, &[low, fibre % 4])?;
+            event.extend_from_slice(&[low, fibre % 4])?;
         }
     }
     Ok(())

@@ -1,21 +1,18 @@
 // What an event holds.
-ghost use Rattle.std.specs.Prelude.{◌≡◌, ℕ, ◌<◌, ◌≤◌, length, Some, MatchResult};
-ghost use Rattle.std.specs.List.{slice_get};
+ghost use Rattle.std.specs.Prelude.{◌≡◌, ℕ, ◌≤◌, length, MatchResult};
 ghost use Rattle.terms.specs.declared.refusal.Refusal.TheVariants.{NoSuchFibre};
-ghost use Rattle.layout.specs.Event as layout;
-ghost use Rattle.reader.specs.Asked.{HasContent};
-ghost use Rattle.reader.specs.Parts.{Holds, event_bytes};
+ghost use Rattle.reader.specs.Asked.{RecordOf};
+ghost use Rattle.reader.specs.Parts.{records_left, records_of, value_of, event_bytes};
 
 use crate::event::Event;
-use crate::record::Record;
-use crate::record::splitting::split_record;
+use crate::record::{Record, Records};
 use layout::Kind;
-use terms::{Fibre, Refusal};
+use terms::Refusal;
 
 impl<'a> Event<'a> {
     // The kind of its twelve records.
     pub fn kind(&self) -> Kind
-        ensures { (v : layout.Event) → Holds self.now v → result ≡ v.kind }
+        ensures { result ≡ (value_of self.now).kind }
     {
         self.kind
     }
@@ -27,17 +24,18 @@ impl<'a> Event<'a> {
         self.bytes.len()
     }
 
+    // Its records, in fibre order.
+    pub fn records(&self) -> Records<'a>
+        ensures given { records_left result ≡ records_of (value_of self.now) }
+        ensures twelve { length (records_left result) ≡ 12 }
+    {
+        Records::new(self.kind, self.bytes)
+    }
+
     // The record of a fibre. Refused with 3 where there is no such fibre.
     pub fn record(&self, fibre: usize) -> Result<Record<'a>, Refusal>
-        ensures { MatchResult result (λ p. (v : layout.Event) → Holds self.now v → (c : layout.Content) × (slice_get v.contents fibre ≡ Some c) × HasContent p v.kind c) (λ e. (12 ≤ fibre) × (e ≡ NoSuchFibre)) }
+        ensures { MatchResult result (RecordOf self.now fibre) (λ e. (12 ≤ fibre) × (e ≡ NoSuchFibre)) }
     {
-        let fibre = Fibre::new(fibre)?;
-        let mut left = self.bytes;
-        for _passed in 0..fibre.index() {
-            let (_, rest) = split_record(self.kind, left);
-            left = rest;
-        }
-        let (record, _) = split_record(self.kind, left);
-        Ok(record)
+        self.records().nth(fibre).ok_or(Refusal::NoSuchFibre)
     }
 }

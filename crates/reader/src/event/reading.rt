@@ -1,8 +1,9 @@
 // Reads an event.
-ghost use Rattle.std.specs.Prelude.{◌≡◌, ℕ, ◌+◌, ◌^◌, ◌<◌, ◌≤◌, ◌++◌, length, Some, None, MatchResult, OnOk};
+ghost use Rattle.std.specs.Prelude.{◌≡◌, ℕ, ◌+◌, ◌^◌, ◌<◌, ◌≤◌, ◌++◌, length, None, MatchResult, OnOk, IfOk, IfErr, slice_index};
 ghost use Rattle.std.specs.List.{AllByRecursion};
-ghost use Rattle.layout.specs.Event.{Byte};
+ghost use Rattle.layout.specs.Event.{Byte, code};
 ghost use Rattle.reader.specs.Parts.{Accepted, Rejected, AcceptedFront, RejectedFront};
+ghost use Rattle.reader.specs.Walks.{Passed, Stopped};
 ghost use Rattle.reader.specs.Questions.{ok_map, ends_at, read_records};
 
 use crate::event::Event;
@@ -12,35 +13,50 @@ use faults::EventFault;
 use layout::Kind;
 use terms::FIBRES;
 
-// Reads the twelve records at the front of an input, and answers where the last of them ends.
-fn read_records(input: &[u8]) -> Result<usize, EventFault>
-    ensures end { result ≡ ok_map ends_at (read_records 12 None 0 input.now) }
-    ensures bytes { OnOk result (AllByRecursion Byte input.now) }
-{
-    let mut left = input;
-    let mut at = 0;
-    let mut first = None;
-    for _fibre in 0..FIBRES {
-        let [lo, hi, code, rest @ ..] = left else {
-            return Err(EventFault::NoHeader(at));
+// Reads the records of an event one after the other: what is left of the input, and the offset at which that begins.
+#[derive(Drop)]
+struct RecordReader<'a> {
+    left: &'a [u8],
+    at: usize,
+}
+
+impl RecordReader<'_> {
+    // Reads the next record, and answers its kind; `first` is the kind of fibre 0, for the fibres behind it.
+    fn read_next(&mut self, first: Option<Kind>) -> Result<Kind, EventFault>
+        requires { self.old.at + length self.old.left.now < 2 ^ 64 }
+        ensures passed { IfOk result (Passed first self.old self.new) }
+        ensures stopped { IfErr result (Stopped first self.old) }
+    {
+        let [lo, hi, code, rest @ ..] = self.left else {
+            return Err(EventFault::NoHeader(self.at));
         };
         let size = usize::from(number_in(*lo, *hi));
-        read_record(first, size, *code, rest, at)?;
-        first = Some(*code);
-        left = &left[size..];
-        at += size;
+        let kind = read_record(first, size, *code, rest, self.at)?;
+        self.left = &self.left[size..];
+        self.at += size;
+        Ok(kind)
     }
-    Ok(at)
+}
+
+// Reads the twelve records at the front of an input, and answers their kind and where the last of them ends.
+fn read_records(input: &[u8]) -> Result<(Kind, usize), EventFault>
+    ensures end { ok_map (λ p. p.1) result ≡ ok_map ends_at (read_records 12 None 0 input.now) }
+    ensures kind { IfOk result (λ p. slice_index input.now 2 ≡ code p.0) }
+    ensures bytes { OnOk result (AllByRecursion Byte input.now) }
+{
+    let mut records = RecordReader { left: input, at: 0 };
+    let kind = records.read_next(None)?;
+    for _fibre in 1..FIBRES {
+        records.read_next(Some(kind))?;
+    }
+    Ok((kind, records.at))
 }
 
 // Reads the event at the front of an input, and hands back what lies behind it.
 pub fn read_first<'a>(input: &'a [u8]) -> Result<(Event<'a>, &'a [u8]), EventFault>
     ensures { MatchResult result (λ p. AcceptedFront input.now p.0 p.1.now) (RejectedFront input.now) }
 {
-    let end = read_records(input)?;
-    let Some(kind) = Kind::from_code(input[2]) else {
-        unreachable()
-    };
+    let (kind, end) = read_records(input)?;
     let (bytes, rest) = input.split_at(end);
     Ok((Event { kind, bytes }, rest))
 }

@@ -1,34 +1,34 @@
 // What a record holds.
 ghost use Rattle.std.specs.Prelude.{◌≡◌, ℕ, ◌+◌, length};
-ghost use Rattle.layout.specs.declared.kind.Kind.{Kind as KindOf};
-ghost use Rattle.layout.specs.Event.{Content, record_bytes};
-ghost use Rattle.reader.specs.Asked.{HasContent, modes_of, count_of, cluster_of, word_of};
-ghost use Rattle.reader.specs.Parts.{cluster_value};
+ghost use Rattle.std.specs.Option.{option_map};
+ghost use Rattle.layout.specs.Event.{record_bytes};
+ghost use Rattle.reader.specs.Asked.{modes_of, clusters_of, count_of, cluster_of, words_of, word_of};
+ghost use Rattle.reader.specs.Parts.{content_of, cluster_value, clusters_left, words_left};
 ghost use Rattle.reader.specs.Questions.{ok_map};
 
-use crate::cluster::{Cluster, count_clusters, nth_cluster};
+use crate::cluster::{Cluster, Clusters};
 use crate::record::Record;
-use crate::words::{nth_word, number_in};
+use crate::words::{Words, nth_word, number_in};
 use layout::Kind;
 use terms::{Pair, Refusal};
 
 impl<'a> Record<'a> {
     pub fn kind(&self) -> Kind
-        ensures { (k : KindOf) (c : Content) → HasContent self.now k c → result ≡ k }
+        ensures { result ≡ self.now.kind }
     {
         self.kind
     }
 
     // The length of the whole record, its three header bytes included.
     pub fn size(&self) -> usize
-        ensures { (k : KindOf) (c : Content) → HasContent self.now k c → result ≡ length (record_bytes k c) }
+        ensures { result ≡ length (record_bytes self.now.kind (content_of self.now)) }
     {
         3 + self.content.len()
     }
 
     // The common modes of the two chips; none in a raw record.
     pub fn common_modes(&self) -> Option<Pair<u16>>
-        ensures { (k : KindOf) (c : Content) → HasContent self.now k c → result ≡ modes_of c }
+        ensures { result ≡ modes_of (content_of self.now) }
     {
         match (self.kind, self.content) {
             (Kind::ZeroSuppressed, [left_lo, left_hi, right_lo, right_hi, ..]) => Some(Pair {
@@ -39,31 +39,45 @@ impl<'a> Record<'a> {
         }
     }
 
-    // The number of clusters; none in a raw record.
-    pub fn cluster_count(&self) -> Option<usize>
-        ensures { (k : KindOf) (c : Content) → HasContent self.now k c → result ≡ count_of c }
+    // The clusters, in their order; none in a raw record.
+    pub fn clusters(&self) -> Option<Clusters<'a>>
+        ensures { option_map clusters_left result ≡ clusters_of (content_of self.now) }
     {
         match (self.kind, self.content) {
-            (Kind::ZeroSuppressed, [_, _, _, _, clusters @ ..]) => Some(count_clusters(clusters)),
+            (Kind::ZeroSuppressed, [_, _, _, _, clusters @ ..]) => Some(Clusters::new(clusters)),
             _ => None,
         }
     }
 
+    // The number of clusters; none in a raw record.
+    pub fn cluster_count(&self) -> Option<usize>
+        ensures { result ≡ count_of (content_of self.now) }
+    {
+        let clusters = self.clusters()?;
+        Some(clusters.count())
+    }
+
     // The cluster of an index, counted from 0. Refused with 33 in a raw record, and with 32 past the last.
     pub fn cluster(&self, index: usize) -> Result<Cluster<'a>, Refusal>
-        ensures { (k : KindOf) (c : Content) → HasContent self.now k c → ok_map cluster_value result ≡ cluster_of c index }
+        ensures { ok_map cluster_value result ≡ cluster_of (content_of self.now) index }
     {
-        match (self.kind, self.content) {
-            (Kind::ZeroSuppressed, [_, _, _, _, clusters @ ..]) => {
-                nth_cluster(clusters, index).ok_or(Refusal::NoSuchCluster)
-            }
-            _ => Err(Refusal::NotZeroSuppressed),
+        let mut clusters = self.clusters().ok_or(Refusal::NotZeroSuppressed)?;
+        clusters.nth(index).ok_or(Refusal::NoSuchCluster)
+    }
+
+    // The words of a raw record, in their order; none in a zero-suppressed one.
+    pub fn words(&self) -> Option<Words<'a>>
+        ensures { option_map words_left result ≡ words_of (content_of self.now) }
+    {
+        match self.kind {
+            Kind::ProcessedRaw | Kind::VirginRaw => Some(Words::new(self.content)),
+            _ => None,
         }
     }
 
     // The word of an index of a raw record.
     pub fn word(&self, index: usize) -> Option<u16>
-        ensures { (k : KindOf) (c : Content) → HasContent self.now k c → result ≡ word_of c index }
+        ensures { result ≡ word_of (content_of self.now) index }
     {
         match self.kind {
             Kind::ZeroSuppressed => None,

@@ -1,13 +1,12 @@
-use Rattle.std.proofs.Common.{◌≡◌, ◌+◌, ◌≤◌, length, None}
-use Rattle.reader.specs.Questions.{ok_map, read_clusters}
+use Rattle.std.proofs.Common.{◌≡◌, ◌+◌, length, None}
+use Rattle.reader.specs.Questions.{verdict, read_clusters}
 use Rattle.reader.proofs.cluster.read_clusters.Given as goal
 
--- the clusters so far and those that are left are all clusters
-abbrev pub invariant-loop-left : goal.invariant-loop-left
-invariant-loop-left l =
-    (ok_map (λ cs. l.count + length cs) (read_clusters 0 l.before l.offset l.left) ≡ ok_map length (read_clusters 0 None l.at l.body))
-    × (l.offset + length l.left ≡ l.at + length l.body)
-    × (l.count + length l.left ≤ length l.body)
+-- the clusters that are left come to what all of them come to
+abbrev pub invariant-loop-clusters : goal.invariant-loop-clusters
+invariant-loop-clusters l =
+    (verdict (read_clusters 0 l.clusters.before l.clusters.at l.clusters.left.now) ≡ verdict (read_clusters 0 None l.at l.body))
+    × (l.clusters.at + length l.clusters.left.now ≡ l.at + length l.body)
 
-abbrev pub decreases-loop-left : goal.decreases-loop-left
-decreases-loop-left l = length l.left
+abbrev pub decreases-loop-clusters : goal.decreases-loop-clusters
+decreases-loop-clusters l = length l.clusters.left.now

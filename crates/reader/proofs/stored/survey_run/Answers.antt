@@ -8,18 +8,18 @@ use Rattle.reader.proofs.stored.survey_run.Goals as goal
 pub loop-left-smaller : goal.loop-left-smaller
 loop-left-smaller c =
     let a = c.in-Ok.ensures in
-    let m = walk_more _ _ _ _ _ _ c.loop-left.invariant a in
+    let m = walk_more _ _ _ _ _ _ c.loop-left.invariant.0 a in
     omega (arith, m.1, length-append (event_bytes c.in-Ok.event) c.in-Ok.rest.now, ap length a.whole)
 
 pub loop-left-preserved : goal.loop-left-preserved
 loop-left-preserved c =
-    let m = walk_more _ _ _ _ _ _ c.loop-left.invariant c.in-Ok.ensures in
-    subst (λ (n : ℕ). Walking c.args.run.now c.in-Ok.rest.now (c.loop-left.events + 1) (c.loop-left.end + n)) (sym c.size-end.ensures) m.0
+    let m = walk_more _ _ _ _ _ _ c.loop-left.invariant.0 c.in-Ok.ensures in
+    (subst (λ (n : ℕ). Walking c.args.run.now c.in-Ok.rest.now (c.loop-left.survey.events + 1) (c.loop-left.survey.end + n)) (sym c.size.ensures) m.0, c.loop-left.invariant.1)
 
 pub returns-in-Err : goal.returns-in-Err
 returns-in-Err c =
     let some : (length c.loop-left.left.now ≡ 0) → ⊥ = eqb-false _ 0 (sym c.loop-left-test.ensures) in
-    broken _ _ _ _ _ c.loop-left.invariant (omega arith) c.in-Err.ensures
+    broken _ _ _ _ _ c.loop-left.invariant.0 (omega arith) c.in-Err.ensures
 
 pub returns : goal.returns
-returns c = walked _ _ _ _ c.loop-left.invariant (eqb-true _ 0 (sym c.loop-left-test.ensures))
+returns c = rw c.loop-left.invariant.1 (walked _ _ _ _ c.loop-left.invariant.0 (eqb-true _ 0 (sym c.loop-left-test.ensures)))

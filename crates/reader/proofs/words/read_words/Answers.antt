@@ -1,12 +1,35 @@
-use Rattle.std.proofs.Common.{◌≡◌, ◌+◌, ◌≤◌, length, drop, sym, ◌∙◌, arith, length-drop, rules}
-use Rattle.std.proofs.lemmas.List.{take_rest}
-use Rattle.reader.proofs.Steps.{word_taken}
+use Rattle.std.proofs.Common.{length, inl, Some, None, ap, ◌∙◌, arith, rules, tests}
+use Rattle.std.proofs.lemmas.Iterator.Consumers.{YieldsList-from_first}
+use Rattle.std.proofs.lemmas.Iterator.Search.{position_from_yields_List}
+use Rattle.std.proofs.lemmas.Iterator.Adapters.{position_from-zero}
+use Rattle.reader.specs.Items.{words_in}
+use Rattle.reader.specs.Parts.{words_left}
+use Rattle.reader.proofs.ItemLaws.{too_large, word_fault, words_few, read_all}
 use Rattle.reader.proofs.words.read_words.Goals as goal
 
-pub loop-left-preserved : goal.loop-left-preserved
-loop-left-preserved c =
-    let xs = c.loop-left.left.now in
-    let two : 2 ≤ length xs = search rules in
-    let t = word_taken c.loop-left.offset xs two (omega (arith, c.number_in.ensures)) in
-    let rest : length (drop 2 xs) + 2 ≡ length xs = omega (arith, length-drop 2 xs) in
-    simp take_rest (sym t ∙ c.loop-left.invariant.0, omega (arith, rest, c.loop-left.invariant.1))
+pub position-requires-clause-fits : goal.position-requires-clause-fits
+position-requires-clause-fits c =
+    let is = ap length c.new.ensures in
+    inl (omega (arith, is, words_few c.args.content.now, c.requires))
+
+pub overflow_mul-result : goal.overflow_mul-result
+overflow_mul-result c =
+    let is = ap length c.new.ensures in
+    omega (arith, is, words_few c.args.content.now, c.in-Some.ensures.bound, c.requires)
+
+pub overflow_add-result : goal.overflow_add-result
+overflow_add-result c =
+    let is = ap length c.new.ensures in
+    omega (arith, is, words_few c.args.content.now, c.in-Some.ensures.bound, c.requires)
+
+pub returns-in-Some : goal.returns-in-Some
+returns-in-Some c =
+    let ws = words_in c.args.content.now in
+    let found = position_from_yields_List too_large c.position.new.self _ (Some c.in-Some.index) c.in-Some.ensures.ran (YieldsList-from_first (λ x. x) words_left ws c.new.ensures) (λ x b q k. search (rules, tests)) in
+    ap (word_fault c.args.at) (found ∙ position_from-zero too_large ws) ∙ read_all c.args.at c.args.content.now
+
+pub returns-in-None : goal.returns-in-None
+returns-in-None c =
+    let ws = words_in c.args.content.now in
+    let found = position_from_yields_List too_large c.position.new.self _ None c.in-None.ensures.ran (YieldsList-from_first (λ x. x) words_left ws c.new.ensures) (λ x b q k. search (rules, tests)) in
+    ap (word_fault c.args.at) (found ∙ position_from-zero too_large ws) ∙ read_all c.args.at c.args.content.now

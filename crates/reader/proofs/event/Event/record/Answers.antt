@@ -1,18 +1,11 @@
-use Rattle.std.proofs.Common.{◌≡◌, ℕ, ◌<◌, Some, ◌∙◌, subst, arith}
-use Rattle.std.specs.List.{slice_get}
-use Rattle.layout.specs.Event.{Content}
-use Rattle.reader.specs.Asked.{HasContent}
-use Rattle.reader.proofs.Records.{left_more, record_found}
+use Rattle.std.proofs.Common.{map}
+use Rattle.std.proofs.lemmas.Iterator.Consumers.{YieldsList-from_first, nth_from_yields_List}
+use Rattle.reader.specs.Parts.{record_value, records_left, value_of}
+use Rattle.reader.proofs.PartLaws.{stands, record_there}
 use Rattle.reader.proofs.event.Event.record.Goals as goal
 
-pub loop-passed-preserved : goal.loop-passed-preserved
-loop-passed-preserved c =
-    let few : c.loop-passed._passed < 12 = omega (arith, c.in_ok-fibre.fibre.below, c.index-passed-end.ensures) in
-    left_more _ _ _ _ c.loop-passed._passed few c.loop-passed.invariant c.split_record.ensures.parts
-
 pub returns : goal.returns
-returns c v h =
-    let few : c.loop-passed._passed < 12 = omega (arith, c.in_ok-fibre.fibre.below, c.index-passed-end.ensures) in
-    let all : c.loop-passed._passed ≡ c.args.fibre = omega (arith, c.index-passed-end.ensures, c.in_ok-fibre.ensures) in
-    let P : ℕ → Type 0 = λ i. (x : Content) × (slice_get v.contents i ≡ Some x) × HasContent c.split_record-2.result.0 v.kind x in
-    subst P all (record_found _ _ _ _ _ few c.loop-passed.invariant c.split_record-2.ensures.parts v h.0 (c.split_record-2.ensures.kind ∙ h.1))
+returns c =
+    let e = c.args.self.now in
+    let nth = nth_from_yields_List c.nth.result c.nth.new.self c.args.fibre c.nth.ensures.ran (YieldsList-from_first record_value records_left (map (λ x. (e.kind, x)) (value_of e).contents) c.records.ensures.given) in
+    rw c.ok_or.ensures.value (record_there e c.nth.result c.args.fibre (stands e.bytes.now e.kind e.bytes_fit e.accepted e.of_kind) nth)

@@ -1,60 +1,33 @@
-use Rattle.std.proofs.Common.{◌≡◌, ◌+◌, ◌-◌, ◌<◌, ◌≤◌, length, Ok, Err, sym, ◌∙◌, arith, length-drop, rules}
-use Rattle.std.proofs.lemmas.List.{take_rest}
+use Rattle.std.proofs.Common.{◌≡◌, ◌+◌, ◌-◌, suc, Some, sym, ap, ◌∙◌, arith}
 use Rattle.std.proofs.ByRecursion.{All-from_get_or}
 use Rattle.std.proofs.lemmas.Result.{err_from_is_err_and}
 use Rattle.layout.specs.Event.{Byte}
-use Rattle.reader.specs.Questions.{verdict}
-use Rattle.reader.proofs.Steps.{record_there, record_fits, records_next, records_fault, records_short}
+use Rattle.reader.specs.Walks.{ends}
 use Rattle.reader.proofs.event.reading.read_records.Goals as goal
-use Rattle.reader.proofs.event.reading.read_records.Goals.{In_ok-read_record}
 
-pub returns-in_default : goal.returns-in_default
-returns-in_default c =
-    let xs = c.loop-fibre.left.now in
-    let i = c.loop-fibre._fibre in
-    let short : length xs < 3 = search rules in
-    let t = records_short (12 - i) (11 - i) c.loop-fibre.first c.loop-fibre.at xs (omega arith) short in
-    record { end = sym t ∙ c.loop-fibre.invariant.0; bytes = tt }
-
-pub returns-in_err-read_record : goal.returns-in_err-read_record
-returns-in_err-read_record c =
-    let xs = c.loop-fibre.left.now in
-    let i = c.loop-fibre._fibre in
+pub returns-in_err-kind-clause-end : goal.returns-in_err-kind-clause-end
+returns-in_err-kind-clause-end c =
     let p = err_from_is_err_and c.from_residual.result c.from_residual.ensures.1 in
-    let long : 3 ≤ length xs = search rules in
-    let h : Err c.in_err-read_record.field-0.0 ≡ verdict (record_there c.loop-fibre.first c.loop-fibre.at xs) = simp (take_rest, c.from-size.ensures, c.number_in.ensures) at c.in_err-read_record.ensures in
-    let t = records_fault (12 - i) (11 - i) c.loop-fibre.first c.loop-fibre.at xs _ (omega arith) long h in
-    rw (p.1, p.2) (record { end = sym t ∙ c.loop-fibre.invariant.0; bytes = tt })
+    rw (p.1, p.2) (sym (c.in_err-kind.ensures.stopped 11))
 
--- the record that was read lies in the input
-there : (c : goal.In_ok-read_record) → Ok tt ≡ verdict (record_there c.loop-fibre.first c.loop-fibre.at c.loop-fibre.left.now)
-there c = simp (take_rest, c.from-size.ensures, c.number_in.ensures) at c.in_ok-read_record.ensures
+pub loop-fibre-init : goal.loop-fibre-init
+loop-fibre-init c = let p = c.in_ok-kind.ensures.passed in (sym (p.others 11), omega (arith, p.within))
 
-fits : (c : goal.In_ok-read_record) → (7 ≤ c.from-size.result) × (c.from-size.result ≤ length c.loop-fibre.left.now)
-fits c =
-    let long : 3 ≤ length c.loop-fibre.left.now = search rules in
-    let f = record_fits c.loop-fibre.first c.loop-fibre.at c.loop-fibre.left.now long (there c) in
-    (omega (arith, f.0, c.from-size.ensures, c.number_in.ensures), omega (arith, f.1, c.from-size.ensures, c.number_in.ensures))
-
-pub slice_bounds-left-count : goal.slice_bounds-left-count
-slice_bounds-left-count c = (fits c).1
-
-pub slice_bounds-left-start : goal.slice_bounds-left-start
-slice_bounds-left-start c = let h = (fits c).1 in search rules
+pub returns-in_err-read_next-clause-end : goal.returns-in_err-read_next-clause-end
+returns-in_err-read_next-clause-end c =
+    let p = err_from_is_err_and c.from_residual-in_err-read_next.result c.from_residual-in_err-read_next.ensures.1 in
+    let i = c.loop-fibre._fibre in
+    let more : 12 - i ≡ suc (11 - i) = omega arith in
+    rw (p.1, p.2) (sym (c.in_err-read_next.ensures.stopped (11 - i)) ∙ (ap (λ n. ends n (Some c.in_ok-kind.kind) c.loop-fibre.records) (sym more) ∙ c.loop-fibre.invariant.0))
 
 pub loop-fibre-preserved : goal.loop-fibre-preserved
 loop-fibre-preserved c =
-    let at = (goal.at.loop-fibre-preserved c).In_ok-read_record in
-    let xs = c.loop-fibre.left.now in
+    let p = c.in_ok-read_next.ensures.passed in
     let i = c.loop-fibre._fibre in
-    let long : 3 ≤ length xs = search rules in
-    let f = (fits at).1 in
-    let t = records_next (12 - i) (12 - (i + 1)) c.loop-fibre.first c.loop-fibre.at xs (omega arith) long (there at) in
-    let n = length-drop c.from-size.result xs in
-    simp take_rest (simp (c.from-size.ensures, c.number_in.ensures) (sym t ∙ c.loop-fibre.invariant.0), omega (arith, n, f, c.loop-fibre.invariant.1))
+    let more : 12 - i ≡ suc (12 - (i + 1)) = omega arith in
+    let next = p.others (12 - (i + 1)) in
+    let same = p.same c.in_ok-kind.kind cc in
+    (rw same at (sym next) ∙ (ap (λ n. ends n (Some c.in_ok-kind.kind) c.loop-fibre.records) (sym more) ∙ c.loop-fibre.invariant.0), p.within ∙ c.loop-fibre.invariant.1)
 
-pub returns : goal.returns
-returns c =
-    let none : 12 - c.loop-fibre._fibre ≡ 0 = omega arith in
-    let e = c.loop-fibre.invariant.0 in
-    record { end = rw none at e; bytes = All-from_get_or Byte c.args.input.now 0 (λ i h. (c.type_inv.input i).fits) }
+pub returns-clause-bytes : goal.returns-clause-bytes
+returns-clause-bytes c = All-from_get_or Byte c.args.input.now 0 (λ i h. (c.type_inv.input i).fits)
