@@ -4,6 +4,7 @@ use Rattle.std.specs.Prelude.{ℕ, ◌-◌, Bool, List, [], map, Some, None, Opt
 use Rattle.std.specs.List.{range_with_len}
 use Rattle.terms.specs.declared.enable.Enable.{Enable}
 use Rattle.ticker.specs.declared.ticker.Ticker.{Ticker}
+use Rattle.stores.specs.declared.store.Store.{Ghosts}
 use Rattle.ticker.specs.Step.{in_lock}
 use Rattle.synch.specs.declared.standing.Standing.{Standing}
 use Rattle.strips.specs.Fibre.{numbers}
@@ -59,3 +60,7 @@ state_of core lists room =
       capture = capture_in (rows_in core.rows) core.capture;
       readout = record { lists = lists; room = room; events = queued core.waiting; slip_out = core.slip_out };
     }
+
+-- the same over a store
+abbrev pub state_in : {S : Type 0} → Ghosts S → Core → S → model.CardState
+state_in s core store = state_of core (s.lists store) (s.room store)

@@ -6,3 +6,4 @@ pub mod Event
 pub mod Taking
 pub mod Carrying
 pub mod CardLaws
+pub mod Held

@@ -7,6 +7,9 @@ use ticker::Ticker;
 
 pub(crate) mod advance;
 pub(crate) mod apply;
+pub(crate) mod complete;
+pub(crate) mod go_on;
+pub(crate) mod loss;
 pub(crate) mod new;
 pub(crate) mod restart;
 pub(crate) mod seek;

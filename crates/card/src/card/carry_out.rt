@@ -1,8 +1,7 @@
 // Lists of calls, carried out call by call.
 ghost use Rattle.std.specs.Prelude.{◌≡◌, ◌+◌, ◌≤◌, length};
-ghost use Rattle.card.specs.Abstraction.{state_of};
-ghost use Rattle.card.specs.Carrying.{lent_to, newest_first, carry_questions, Answered, CarriedOut};
-ghost use Rattle.card.specs.CardLaws.{LawsAfterList};
+ghost use Rattle.card.specs.Carrying.{lent_to, carry_questions};
+ghost use Rattle.card.specs.Held.{CallAnswered, CallsCarriedOut, CallsKeepLaws};
 
 use super::Card;
 use crate::answer::Answer;
@@ -16,7 +15,7 @@ impl<R: Rule + Drop, S: Store + Drop> Card<R, S> {
     // Carries out a Fetch into a part of the bytes, with a slip of its own.
     fn answer_fetch(&mut self, long: usize, bytes: &mut [u8], at: usize) -> Answer
         requires { at + long ≤ length bytes.old }
-        ensures step { Answered (R.Rule.meaning self.old.rule) (state_of self.old.core (S.Store.lists self.old.store) (S.Store.room self.old.store)) (Call.Fetch long) at bytes.old (state_of self.new.core (S.Store.lists self.new.store) (S.Store.room self.new.store)) result bytes.new }
+        ensures step { CallAnswered R.meaning self.old (Call.Fetch long) at bytes.old self.new result bytes.new }
         ensures rule { self.new.rule ≡ self.old.rule }
     {
         let slip = Slip {
@@ -30,7 +29,7 @@ impl<R: Rule + Drop, S: Store + Drop> Card<R, S> {
     // Carries out a call. A Fetch is lent its part of the bytes, from a place on.
     fn answer(&mut self, call: Call, bytes: &mut [u8], at: usize) -> Answer
         requires { at + lent_to call ≤ length bytes.old }
-        ensures step { Answered (R.Rule.meaning self.old.rule) (state_of self.old.core (S.Store.lists self.old.store) (S.Store.room self.old.store)) call at bytes.old (state_of self.new.core (S.Store.lists self.new.store) (S.Store.room self.new.store)) result bytes.new }
+        ensures step { CallAnswered R.meaning self.old call at bytes.old self.new result bytes.new }
         ensures rule { self.new.rule ≡ self.old.rule }
     {
         match call {
@@ -60,10 +59,13 @@ impl<R: Rule + Drop, S: Store + Drop> Card<R, S> {
         bytes: &mut [u8],
     ) -> Result<(), Refusal>
         ensures answer { result ≡ carry_questions calls.now (length answers.old) (length bytes.old) }
-        ensures run { CarriedOut (R.Rule.meaning self.old.rule) (state_of self.old.core (S.Store.lists self.old.store) (S.Store.room self.old.store)) calls.now answers.old bytes.old (state_of self.new.core (S.Store.lists self.new.store) (S.Store.room self.new.store)) answers.new bytes.new result }
+        ensures run { CallsCarriedOut R.meaning self.old calls.now answers.old bytes.old
+            self.new answers.new bytes.new result }
         ensures rule { self.new.rule ≡ self.old.rule }
-        ensures laws { LawsAfterList (R.Rule.meaning self.old.rule) (state_of self.old.core (S.Store.lists self.old.store) (S.Store.room self.old.store)) (newest_first calls.now) }
+        ensures laws { CallsKeepLaws R.meaning self.old calls.now }
     {
+        // Opens the card: that the laws hold rests on the capacity of its store.
+        let _ = &self.core;
         if answers.len() < calls.len() {
             return Err(Refusal::BufferTooShort(calls.len()));
         }

@@ -1,7 +1,7 @@
 use Rattle.std.proofs.Common.{arith, below_more}
 use Rattle.std.proofs.lemmas.Bool.{le-ltb}
 use Rattle.card.proofs.Losing.{loss_many, loss_room, loss_none}
-use Rattle.card.proofs.card.Card.loss.Goals as goal
+use Rattle.card.proofs.inner.Core.loss.Goals as goal
 
 pub returns-then-len-ge-MOST : goal.returns-then-len-ge-MOST
 returns-then-len-ge-MOST g c = loss_many _ _ _ _ (omega arith)

@@ -1,0 +1,65 @@
+// The last Clock of a capture: the event is formed, and kept or lost.
+ghost use Rattle.std.specs.Prelude.{◌≡◌, [], ◌∷◌, ◌++◌, None};
+ghost use Rattle.card_model.specs.Clock.{too_large, records_of, completing};
+ghost use Rattle.card.specs.Abstraction.{state_in, watches_in, rows_in, columns_before};
+ghost use Rattle.card.specs.Event.{event_in, Formed};
+ghost use Rattle.card.specs.Steps.{Leads, said_clocked};
+
+use super::Core;
+use crate::clocked::Clocked;
+use crate::column::capture_samples;
+use crate::forming::{LONGEST, form_records};
+use crate::lengths::event_length;
+use crate::putting::put_records;
+use rules::Rule;
+use stores::Store;
+
+// The position of the last Clock of a capture.
+pub(crate) const LAST: usize = 279;
+
+impl Core {
+    // Ends the capture with its last samples, and forms the event.
+    pub(crate) fn complete<R: Rule, S: Store>(
+        &mut self,
+        rule: &R,
+        store: &mut S,
+        samples: &[u16; 12],
+    ) -> Clocked
+        requires { too_large samples.now ≡ None }
+        ensures { Leads
+            (completing (state_in S.Store self.old store.old) (watches_in self.old.tickers)
+            (records_of (R.meaning rule.now) self.old.settings
+            (columns_before (rows_in self.old.rows) 279 ++ samples.now ∷ [])))
+            (state_in S.Store self.new store.new) (said_clocked result) }
+    {
+        capture_samples(&mut self.rows, LAST, samples);
+        self.capture = None;
+        let mut buffers = [[0; LONGEST]; 12];
+        let lengths = form_records(rule, &self.settings, &self.rows, &mut buffers);
+        self.take_in(store, &buffers, lengths)
+    }
+
+    // Keeps an event, unless it is lost.
+    fn take_in<S: Store>(
+        &mut self,
+        store: &mut S,
+        buffers: &[[u8; LONGEST]; 12],
+        lengths: [u16; 12],
+    ) -> Clocked
+        requires formed { Formed (event_in buffers.now lengths) buffers.now lengths }
+        requires ended { self.old.capture ≡ None }
+        ensures { Leads
+            (completing (state_in S.Store self.old store.old) (watches_in self.old.tickers)
+            (event_in buffers.now lengths))
+            (state_in S.Store self.new store.new) (said_clocked result) }
+    {
+        match self.loss(store, &lengths) {
+            Some(loss) => Clocked::Lost(loss),
+            None => {
+                put_records(store, buffers, &lengths);
+                self.waiting.push_back(lengths);
+                Clocked::Kept(event_length(&lengths))
+            }
+        }
+    }
+}
