@@ -1,6 +1,6 @@
 -- What a card's memory stands for.
 -- Assumes nothing.
-use Rattle.std.specs.Prelude.{ℕ, ◌-◌, Bool, List, [], map, Some, None, Option, slice_index, slice_index_or}
+use Rattle.std.specs.Prelude.{◌≡◌, ℕ, ◌-◌, Bool, List, [], map, Some, None, Option, slice_index, slice_index_or}
 use Rattle.std.specs.List.{range_with_len}
 use Rattle.terms.specs.declared.enable.Enable.{Enable}
 use Rattle.ticker.specs.declared.ticker.Ticker.{Ticker}
@@ -64,3 +64,7 @@ state_of core lists room =
 -- the same over a store
 abbrev pub state_in : {S : Type 0} → Ghosts S → Core → S → model.CardState
 state_in s core store = state_of core (s.lists store) (s.room store)
+
+-- whatever a store holds, the state of a card goes on by a change, as its memory does
+abbrev pub StateGoes : (model.CardState → model.CardState) → Core → Core → Type 0
+StateGoes change before after = (lists : List (List ℕ)) (room : ℕ) → state_of after lists room ≡ change (state_of before lists room)

@@ -1,6 +1,7 @@
 pub mod Queue
 pub mod Abstraction
 pub mod Columns
+pub mod Samples
 pub mod Steps
 pub mod Event
 pub mod Taking

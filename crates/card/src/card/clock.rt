@@ -6,7 +6,7 @@ ghost use Rattle.card.specs.Steps.{said_clock};
 
 use super::Card;
 use crate::clocked::Clocked;
-use crate::samples::too_large;
+use crate::samples::read_samples;
 use crate::tick::tick;
 use rules::Rule;
 use stores::Store;
@@ -20,10 +20,8 @@ impl<R: Rule + Drop, S: Store + Drop> Card<R, S> {
         ensures laws { CallKeepsLaws R.meaning self.old (the_clock samples.now) }
     {
         let capture = self.core.capture;
-        if let Some(fibre) = too_large(samples) {
-            return Err(Refusal::SampleTooLarge(fibre));
-        }
-        let pulses = tick(&self.core.settings, &mut self.core.tickers, samples);
+        let samples = read_samples(samples)?;
+        let pulses = tick(&self.core.settings, &mut self.core.tickers, &samples);
         match capture {
             None => {
                 self.core.seek(pulses);
@@ -31,7 +29,7 @@ impl<R: Rule + Drop, S: Store + Drop> Card<R, S> {
             }
             Some(capture) => Ok(
                 self.core
-                    .go_on(&self.rule, &mut self.store, capture, samples),
+                    .go_on(&self.rule, &mut self.store, capture, &samples),
             ),
         }
     }

@@ -1,6 +1,7 @@
 // The last Clock of a capture: the event is formed, and kept or lost.
 ghost use Rattle.std.specs.Prelude.{◌≡◌, [], ◌∷◌, ◌++◌, None};
-ghost use Rattle.card_model.specs.Clock.{too_large, records_of, completing};
+ghost use Rattle.strips.specs.Fibre.{numbers};
+ghost use Rattle.card_model.specs.Clock.{records_of, completing};
 ghost use Rattle.card.specs.Abstraction.{state_in, watches_in, rows_in, columns_before};
 ghost use Rattle.card.specs.Event.{event_in, Formed};
 ghost use Rattle.card.specs.Steps.{Leads, said_clocked};
@@ -13,6 +14,7 @@ use crate::lengths::event_length;
 use crate::putting::put_records;
 use rules::Rule;
 use stores::Store;
+use strips::Sample;
 
 // The position of the last Clock of a capture.
 pub(crate) const LAST: usize = 279;
@@ -23,13 +25,12 @@ impl Core {
         &mut self,
         rule: &R,
         store: &mut S,
-        samples: &[u16; 12],
+        samples: &[Sample; 12],
     ) -> Clocked
-        requires { too_large samples.now ≡ None }
         ensures { Leads
             (completing (state_in S.Store self.old store.old) (watches_in self.old.tickers)
             (records_of (R.meaning rule.now) self.old.settings
-            (columns_before (rows_in self.old.rows) 279 ++ samples.now ∷ [])))
+            (columns_before (rows_in self.old.rows) 279 ++ numbers samples.now ∷ [])))
             (state_in S.Store self.new store.new) (said_clocked result) }
     {
         capture_samples(&mut self.rows, LAST, samples);
