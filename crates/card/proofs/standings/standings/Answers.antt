@@ -15,7 +15,7 @@ loop-f-preserved c =
     let inv = c.loop-f.invariant in (
       length-set c.loop-f.fibres c.loop-f.f _ ∙ inv.0,
       stands_more c.args.settings.now c.args.tickers.now c.args.in_step.now c.loop-f.fibres _ c.loop-f.f _ _ _ _ _
-          c.loop-f-test.true inv.0 (omega arith) (omega arith) (omega arith) inv.1 c.standing.ensures,
+          (omega arith) inv.0 (omega arith) (omega arith) (omega arith) inv.1 c.standing.ensures,
     )
 
 pub returns : goal.returns
