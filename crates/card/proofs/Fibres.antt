@@ -1,15 +1,15 @@
 -- Lists of one thing for each of the twelve fibres.
 -- Assumes nothing.
-use Rattle.std.proofs.Common.{◌≡◌, ℕ, zero, suc, ◌+◌, ◌<◌, ◌≤◌, Bool, true, false, cond, ltb, List, [], ◌∷◌, ◌++◌, length, get_or, set, Some, None, sum, sym, refl, ap, ◌∙◌, ⊎_elim, arith}
+use Rattle.std.proofs.Common.{◌≡◌, ℕ, zero, suc, ◌+◌, ◌<◌, ◌≤◌, Bool, true, false, cond, ltb, List, [], ◌∷◌, ◌++◌, length, get_or, set, Some, None, sum, sum_by, sym, refl, ap, ◌∙◌, ⊎_elim, arith}
 use Rattle.std.specs.List.{range_with_len}
 use Rattle.std.proofs.lemmas.List.FromFn.{fill_by_all, map-range_with_len_more}
 use Rattle.std.proofs.lemmas.List.{map-id, get_or-set_same, get_or-set_other}
-use Rattle.std.proofs.lemmas.List.Sums.{sum-map}
-use Rattle.std.proofs.lemmas.Bool.{cases_eq, cases_lt, cond-true, cond-false, lt-ltb, le-ltb, ltb-false}
+use Rattle.std.proofs.lemmas.List.Sums.{sum-map, sum_by_push}
+use Rattle.std.proofs.lemmas.Bool.{cases_eq, cases_lt, cond-true, cond-false, lt-ltb, le-ltb}
 use Rattle.card_model.specs.Fibres.{for_fibres, total, first_of, lowest}
 use Rattle.card_model.specs.Readout.{event_length}
 use Rattle.card_model.specs.Clock.{too_large}
-use Rattle.card_model.proofs.Fibres.{lowest_none, none_lowest}
+use Rattle.card_model.proofs.Fibres.{lowest_none}
 
 -- a list of twelve whose elements are known
 pub filled : {X : Type 0} (g : ℕ → X) (xs : List X) (d : X) → length xs ≡ 12 → ((f : ℕ) → f < 12 → get_or xs f d ≡ g f) → xs ≡ for_fibres g
@@ -54,6 +54,15 @@ pub sum_of_lengths : (lengths : List ℕ) → length lengths ≡ 12 → sum leng
 unfolding for_fibres total
 sum_of_lengths lengths long =
     ap sum (filled (λ f. get_or lengths f 0) lengths 0 long (λ f h. refl)) ∙ sum-map (λ (f : ℕ). get_or lengths f 0) (range_with_len 0 12)
+
+-- a sum over the fibres, one more
+pub counting_more : (n : ℕ) → range_with_len 0 (n + 1) ≡ range_with_len 0 n ++ n ∷ []
+counting_more n =
+    sym (map-id (range_with_len 0 (n + 1)))
+    ∙ (map-range_with_len_more (λ (x : ℕ). x) 0 n n (omega arith) ∙ ap (λ (xs : List ℕ). xs ++ n ∷ []) (map-id (range_with_len 0 n)))
+
+pub sum_more : (g : ℕ → ℕ) (n : ℕ) → sum_by g (range_with_len 0 (n + 1)) ≡ sum_by g (range_with_len 0 n) + g n
+sum_more g n = ap (sum_by g) (counting_more n) ∙ sum_by_push g (range_with_len 0 n) n
 
 -- the lowest fibre that passes a test
 first_at : (p : ℕ → Bool) (a n f : ℕ) → a ≤ f → f < a + n → p f ≡ true → ((k : ℕ) → a ≤ k → k < f → p k ≡ false) → first_of p (range_with_len a n) ≡ Some f

@@ -3,16 +3,17 @@ ghost use Rattle.std.specs.Prelude.{◌≡◌, [], ◌∷◌, ◌++◌, None};
 ghost use Rattle.strips.specs.Fibre.{numbers};
 ghost use Rattle.card_model.specs.Clock.{records_of, completing};
 ghost use Rattle.card.specs.Abstraction.{state_in, watches_in, rows_in, columns_before};
-ghost use Rattle.card.specs.Event.{event_in, Formed};
 ghost use Rattle.card.specs.Steps.{Leads, said_clocked};
 
 use super::Core;
 use crate::clocked::Clocked;
 use crate::column::capture_samples;
-use crate::forming::{LONGEST, form_records};
+use crate::forming::{form_records, lengths_of};
 use crate::lengths::event_length;
 use crate::putting::put_records;
+use crate::record::Record;
 use rules::Rule;
+use std::array;
 use stores::Store;
 use strips::Sample;
 
@@ -35,29 +36,23 @@ impl Core {
     {
         capture_samples(&mut self.rows, LAST, samples);
         self.capture = None;
-        let mut buffers = [[0; LONGEST]; 12];
-        let lengths = form_records(rule, &self.settings, &self.rows, &mut buffers);
-        self.take_in(store, &buffers, lengths)
+        let mut records = array::from_fn(|_| Record::new());
+        form_records(rule, &self.settings, &self.rows, &mut records);
+        self.take_in(store, &records)
     }
 
     // Keeps an event, unless it is lost.
-    fn take_in<S: Store>(
-        &mut self,
-        store: &mut S,
-        buffers: &[[u8; LONGEST]; 12],
-        lengths: [u16; 12],
-    ) -> Clocked
-        requires formed { Formed (event_in buffers.now lengths) buffers.now lengths }
-        requires ended { self.old.capture ≡ None }
+    fn take_in<S: Store>(&mut self, store: &mut S, records: &[Record; 12]) -> Clocked
+        requires { self.old.capture ≡ None }
         ensures { Leads
-            (completing (state_in S.Store self.old store.old) (watches_in self.old.tickers)
-            (event_in buffers.now lengths))
+            (completing (state_in S.Store self.old store.old) (watches_in self.old.tickers) records.now)
             (state_in S.Store self.new store.new) (said_clocked result) }
     {
+        let lengths = lengths_of(records);
         match self.loss(store, &lengths) {
             Some(loss) => Clocked::Lost(loss),
             None => {
-                put_records(store, buffers, &lengths);
+                put_records(store, records);
                 self.waiting.push_back(lengths);
                 Clocked::Kept(event_length(&lengths))
             }

@@ -8,7 +8,6 @@ use super::Core;
 use crate::clocked::Loss;
 use crate::waiting::MOST;
 use stores::Store;
-use terms::FIBRES;
 
 impl Core {
     // Why an event with records of these lengths is lost, if it is: do fewer events wait than can? 14. Does
@@ -21,8 +20,8 @@ impl Core {
         if self.waiting.len() >= MOST {
             return Some(Loss::TooMany);
         }
-        for f in 0..FIBRES {
-            if lengths[f] as usize > free_room(store, f) {
+        for (f, length) in lengths.iter().enumerate() {
+            if *length as usize > free_room(store, f) {
                 return Some(Loss::NoRoom(f));
             }
         }

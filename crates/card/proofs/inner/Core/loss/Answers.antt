@@ -12,8 +12,8 @@ loop-f-init g c = λ k h. absurd (omega arith)
 pub loop-f-preserved : goal.loop-f-preserved
 loop-f-preserved g c = below_more _ _ c.loop-f.invariant (le-ltb _ _ (omega arith))
 
-pub returns-then-lengths-f : goal.returns-then-lengths-f
-returns-then-lengths-f g c = loss_room _ _ _ _ c.loop-f.f (omega arith) c.loop-f-test.true (omega arith) c.loop-f.invariant
+pub returns-then-length-free_room : goal.returns-then-length-free_room
+returns-then-length-free_room g c = loss_room _ _ _ _ c.loop-f.f (omega arith) (omega arith) (omega arith) c.loop-f.invariant
 
 pub returns : goal.returns
-returns g c = loss_none _ _ _ _ c.loop-f.f (omega arith) c.loop-f-test.false c.loop-f.invariant
+returns g c = loss_none _ _ _ _ c.loop-f.f (omega arith) (omega arith) c.loop-f.invariant
