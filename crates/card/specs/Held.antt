@@ -6,10 +6,9 @@ use Rattle.rules.specs.Rules.{Meaning}
 use Rattle.card_model.specs.Calls as model
 use Rattle.card_model.specs.State.{CardState}
 use Rattle.card.specs.declared.call.Call.{Call}
-use Rattle.card.specs.declared.answer.Answer.{Answer}
 use Rattle.card.specs.Steps.{Stepped}
 use Rattle.card.specs.CardLaws.{LawsAfter, LawsAfterList}
-use Rattle.card.specs.Carrying.{newest_first, Answered, CarriedOut}
+use Rattle.card.specs.Carrying.{Reply, newest_first, Answered, CarriedOut}
 
 -- a card: its rule, and the state that all else of it stands for
 pub record Held (R : Type 0) : Type 0 where
@@ -29,11 +28,11 @@ module _ {R : Type 0} (meaning : R → Meaning) where
   CallsKeepLaws before calls = LawsAfterList (meaning before.rule) before.state (newest_first calls)
 
   -- a call was carried out that is lent the buffer from a place on
-  abbrev pub CallAnswered : Held R → Call → ℕ → List ℕ → Held R → Answer → List ℕ → Type 0
+  abbrev pub CallAnswered : Held R → Call → ℕ → List ℕ → Held R → Reply → List ℕ → Type 0
   CallAnswered before call at bytes after answer bytes' =
       Answered (meaning before.rule) before.state call at bytes after.state answer bytes'
 
   -- what became of a list of calls, by what its carrying out returned
-  abbrev pub CallsCarriedOut : Held R → List Call → List Answer → List ℕ → Held R → List Answer → List ℕ → Result (Unit {0}) Refusal → Type 0
+  abbrev pub CallsCarriedOut : Held R → List Call → List Reply → List ℕ → Held R → List Reply → List ℕ → Result (Unit {0}) Refusal → Type 0
   CallsCarriedOut before calls row bytes after row' bytes' result =
       CarriedOut (meaning before.rule) before.state calls row bytes after.state row' bytes' result

@@ -26,10 +26,7 @@ impl<R: Rule + Drop, S: Store + Drop> Card<R, S> {
             None => Err(Refusal::NothingWaiting),
             Some(lengths) => {
                 self.core.slip_out = true;
-                Ok(Slip {
-                    length: event_length(&lengths),
-                    spent: false,
-                })
+                Ok(Slip::new(event_length(&lengths)))
             }
         }
     }

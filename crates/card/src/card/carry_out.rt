@@ -13,39 +13,51 @@ use terms::Refusal;
 
 impl<R: Rule + Drop, S: Store + Drop> Card<R, S> {
     // Carries out a Fetch into a part of the bytes, with a slip of its own.
-    fn answer_fetch(&mut self, long: usize, bytes: &mut [u8], at: usize) -> Answer
+    fn answer_fetch(&mut self, long: usize, bytes: &mut [u8], at: usize) -> Result<Answer, Refusal>
         requires { at + long ≤ length bytes.old }
-        ensures step { CallAnswered R.meaning self.old (Call.Fetch long) at bytes.old self.new result bytes.new }
+        ensures step { CallAnswered R.meaning self.old (Call.Fetch long) at bytes.old
+            self.new result bytes.new }
         ensures rule { self.new.rule ≡ self.old.rule }
     {
-        let slip = Slip {
-            length: 0,
-            spent: false,
-        };
         let end = at + long;
-        Answer::of_fetch(self.fetch(slip, &mut bytes[at..end]), at)
+        let length = self.fetch(Slip::new(0), &mut bytes[at..end])?;
+        Ok(Answer::Fetched { at, length })
     }
 
     // Carries out a call. A Fetch is lent its part of the bytes, from a place on.
-    fn answer(&mut self, call: Call, bytes: &mut [u8], at: usize) -> Answer
+    fn answer(&mut self, call: Call, bytes: &mut [u8], at: usize) -> Result<Answer, Refusal>
         requires { at + lent_to call ≤ length bytes.old }
         ensures step { CallAnswered R.meaning self.old call at bytes.old self.new result bytes.new }
         ensures rule { self.new.rule ≡ self.old.rule }
     {
         match call {
-            Call::Load(word) => Answer::of_load(self.load(word)),
-            Call::Clock(samples) => Answer::of_clock(self.clock(&samples)),
-            Call::Ask => Answer::of_ask(self.ask()),
+            Call::Load(word) => {
+                self.load(word)?;
+                Ok(Answer::Taken)
+            }
+            Call::Clock(samples) => {
+                let clocked = self.clock(&samples)?;
+                Ok(Answer::Clocked(clocked))
+            }
+            Call::Ask => {
+                let slip = self.ask()?;
+                let length = slip.length();
+                slip.spend();
+                Ok(Answer::Slip(length))
+            }
             Call::Fetch(long) => self.answer_fetch(long, bytes, at),
             Call::GiveBack => {
-                let slip = Slip {
-                    length: 0,
-                    spent: false,
-                };
-                Answer::of_give_back(self.give_back(slip))
+                self.give_back(Slip::new(0))?;
+                Ok(Answer::GivenBack)
             }
-            Call::Level(fibre) => Answer::of_level(self.level(fibre)),
-            Call::Reset => Answer::of_reset(self.reset()),
+            Call::Level(fibre) => {
+                let level = self.level(fibre)?;
+                Ok(Answer::Level(level))
+            }
+            Call::Reset => {
+                self.reset()?;
+                Ok(Answer::WasReset)
+            }
         }
     }
 
@@ -55,7 +67,7 @@ impl<R: Rule + Drop, S: Store + Drop> Card<R, S> {
     pub fn carry_out(
         &mut self,
         calls: &[Call],
-        answers: &mut [Answer],
+        answers: &mut [Result<Answer, Refusal>],
         bytes: &mut [u8],
     ) -> Result<(), Refusal>
         ensures answer { result ≡ carry_questions calls.now (length answers.old) (length bytes.old) }

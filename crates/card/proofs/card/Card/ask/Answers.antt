@@ -1,4 +1,4 @@
-use Rattle.std.proofs.Common.{refl}
+use Rattle.std.proofs.Common.{refl, ◌∙◌}
 use Rattle.card.proofs.Calls.{asked_out, asked_none, asked_some}
 use Rattle.card.proofs.CardLaws.{card_laws}
 use Rattle.card.proofs.card.Card.ask.Goals as goal
@@ -12,8 +12,8 @@ returns-in-None g c = rw (← c.self.view_is) (record { step = asked_none _ _ _ 
 pub returns-in-Some : goal.returns-in-Some
 returns-in-Some g c =
     rw (← c.self.view_is) (record {
-      step = asked_some _ _ _ _ _ _ c.if-self.false c.in-Some.ensures c.event_length.ensures;
-      slip = refl;
+      step = asked_some _ _ _ _ _ _ c.if-self.false c.in-Some.ensures (c.new.ensures.length ∙ c.event_length.ensures);
+      slip = c.new.ensures.spent;
       rule = refl;
       laws = card_laws g.S.Store _ (g.met.R.Rule.bounded _) _ _ _;
     })
