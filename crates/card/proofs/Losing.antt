@@ -20,7 +20,6 @@ use Rattle.card.specs.declared.row.Row.{Row}
 use Rattle.card.specs.declared.waiting.Waiting.{Waiting}
 use Rattle.card.specs.Abstraction.{watches_in, rows_in, columns_before, running, capture_in, state_of}
 use Rattle.card.proofs.Clocking.{with_capture, is_last}
-use Rattle.card.specs.Queue.{queued}
 use Rattle.card.specs.Event.{exceeds_by, loss_by, FitsAll}
 use Rattle.card.specs.Steps.{Leads, loss_in}
 use Rattle.card.proofs.Fibres.{Upto, upto_here, upto_more, lowest_some}
@@ -115,12 +114,12 @@ with_waiting core waiting =
     }
 
 module _ (core : Core) (lists : List (List ℕ)) (room : ℕ) (event : List (List ℕ)) (lengths : List ℕ) where
-  loses : lengths ≡ lengths_of event → loss_by room lists (length (queued core.waiting)) lengths ≡ loss (state_of core lists room).readout event
+  loses : lengths ≡ lengths_of event → loss_by room lists (length core.waiting) lengths ≡ loss (state_of core lists room).readout event
   unfolding state_of
   loses e = loss_as (state_of core lists room).readout event lengths e
 
   pub event_lost : (l : Loss) → core.capture ≡ None → lengths ≡ lengths_of event
-      → Some (loss_in l) ≡ loss_by room lists (length (queued core.waiting)) lengths
+      → Some (loss_in l) ≡ loss_by room lists (length core.waiting) lengths
       → Leads (completing (state_of core lists room) (watches_in core.tickers) event) (state_of core lists room) (plain (lost (loss_in l)))
   unfolding state_of completing
   event_lost l idle long is =
@@ -134,19 +133,19 @@ module _ (core : Core) (lists : List (List ℕ)) (room : ℕ) (event : List (Lis
       }
 
   pub event_kept : (after : Waiting) (lists' : List (List ℕ)) (room' n : ℕ) → core.capture ≡ None → lengths ≡ lengths_of event
-      → None ≡ loss_by room lists (length (queued core.waiting)) lengths
+      → None ≡ loss_by room lists (length core.waiting) lengths
       → lists' ≡ for_fibres (λ f. waiting lists f ++ record_of event f) → room' ≡ room
-      → queued after ≡ queued core.waiting ++ lengths ∷ [] → n ≡ event_length lengths
+      → after ≡ core.waiting ++ lengths ∷ [] → n ≡ event_length lengths
       → Leads (completing (state_of core lists room) (watches_in core.tickers) event) (state_of (with_waiting core after) lists' room') (kept n)
   unfolding state_of completing with_event
   event_kept after lists' room' n idle long is put same behind total_is =
       let r = (state_of core lists room).readout in
       let why : None ≡ loss r event = is ∙ loses long in
       let readout : (state_of (with_waiting core after) lists' room').readout ≡ with_event r event =
-      ap₂ (λ (ls : List (List ℕ)) (m : ℕ). record { lists = ls; room = m; events = queued after; slip_out = core.slip_out }) put same
+      ap₂ (λ (ls : List (List ℕ)) (m : ℕ). record { lists = ls; room = m; events = after; slip_out = core.slip_out }) put same
       ∙ ap (λ (q : List (List ℕ)).
       record { lists = for_fibres (λ f. waiting lists f ++ record_of event f); room = room; events = q; slip_out = core.slip_out })
-      (behind ∙ ap (λ (ls : List ℕ). queued core.waiting ++ ls ∷ []) long)
+      (behind ∙ ap (λ (ls : List ℕ). core.waiting ++ ls ∷ []) long)
       in
       record {
         state =

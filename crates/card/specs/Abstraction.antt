@@ -14,7 +14,6 @@ use Rattle.card_model.specs.Clock.{first_sample}
 use Rattle.card.specs.declared.capture.Capture.{Capture}
 use Rattle.card.specs.declared.inner.Core.{Core}
 use Rattle.card.specs.declared.row.Row.{Row}
-use Rattle.card.specs.Queue.{queued}
 
 -- a ticker
 abbrev pub watch_in : Ticker → model.Watch
@@ -58,7 +57,7 @@ state_of core lists room =
       settings = core.settings;
       watches = watches_in core.tickers;
       capture = capture_in (rows_in core.rows) core.capture;
-      readout = record { lists = lists; room = room; events = queued core.waiting; slip_out = core.slip_out };
+      readout = record { lists = lists; room = room; events = core.waiting; slip_out = core.slip_out };
     }
 
 -- the same over a store

@@ -2,7 +2,6 @@
 ghost use Rattle.std.specs.Prelude.{◌≡◌, length};
 ghost use Rattle.card_model.specs.Calls.{fetch as the_fetch};
 ghost use Rattle.card_model.specs.Readout.{oldest_bytes};
-ghost use Rattle.card.specs.Queue.{queued};
 ghost use Rattle.card.specs.Held.{CallStepped, CallKeepsLaws};
 ghost use Rattle.card.specs.Steps.{HandedBack, said_fetch, Fetched};
 ghost use Rattle.card.specs.Taking.{LengthsOf};
@@ -18,7 +17,7 @@ use terms::Refusal;
 
 // The lengths of the oldest event's records; zeros where no event waits.
 fn oldest(waiting: &Waiting) -> [u16; 12]
-    ensures { LengthsOf (queued waiting.now) result }
+    ensures { LengthsOf waiting.now result }
 {
     match waiting.front() {
         Some(lengths) => lengths,

@@ -1,7 +1,6 @@
 // Whether a completed event is lost.
 ghost use Rattle.std.specs.Prelude.{◌≡◌, ◌-◌, ◌<◌, length};
 ghost use Rattle.stores.specs.Store.{level_of};
-ghost use Rattle.card.specs.Queue.{queued};
 ghost use Rattle.card.specs.Event.{loss_by, loss_in_all};
 
 use super::Core;
@@ -15,7 +14,7 @@ impl Core {
     pub(crate) fn loss<S: Store>(&self, store: &S, lengths: &[u16; 12]) -> Option<Loss>
         ensures { loss_in_all result
             ≡ loss_by (S.room store.now) (S.lists store.now)
-            (length (queued self.now.waiting)) lengths.now }
+            (length self.now.waiting) lengths.now }
     {
         if self.waiting.len() >= MOST {
             return Some(Loss::TooMany);
