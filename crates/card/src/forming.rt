@@ -26,6 +26,7 @@ pub(crate) fn form_records<R: Rule>(
 }
 
 // How long each record is.
+// A loop: of what array::from_fn makes it stayed open by which records its closure made it.
 pub(crate) fn lengths_of(records: &[Record; 12]) -> [u16; 12]
     ensures { result ≡ lengths_of records.now }
 {

@@ -17,6 +17,7 @@ pub(crate) mod seek;
 #[derive(Drop)]
 pub(crate) struct Core {
     pub(crate) settings: CardSettings,
+    // Apart from the rows: a Clock steps all twelve, so they lie close together.
     pub(crate) tickers: [Ticker; 12],
     pub(crate) capture: Option<Capture>,
     // The captured samples of each fibre.

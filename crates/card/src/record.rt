@@ -39,7 +39,7 @@ impl Record {
         }
     }
 
-    // Becomes the record of a fibre.
+    // Becomes the record of a fibre, by the number that the loop over all twelve has.
     pub(crate) fn form<R: Rule>(&mut self, rule: &R, settings: &CardSettings, f: usize, row: &Row)
         requires { f < 12 }
         ensures { self.new

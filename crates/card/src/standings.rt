@@ -9,7 +9,7 @@ use terms::Enable;
 use ticker::Ticker;
 
 // How each fibre stands, by the state and the header of its ticker; some fibres are in step.
-// A loop: with array::from_fn it stayed open what the closure answers for each fibre.
+// A loop: of what array::from_fn makes it stayed open by which tickers its closure made it.
 pub(crate) fn standings(
     settings: &CardSettings,
     tickers: &[Ticker; 12],

@@ -8,9 +8,12 @@ ghost use Rattle.card.specs.Taking.{record_in, left_by};
 use stores::Store;
 
 // Takes the oldest bytes of a fibre, as many as `out` is long; where fewer wait, it becomes zeros.
+// By the fibre's number, as the store has it: making a Fibre of it takes a branch that never runs.
 fn take_record<S: Store>(store: &mut S, fibre: usize, out: &mut [u8])
     requires { fibre < 12 }
-    ensures lists { S.lists store.new ≡ slice_set (S.lists store.old) fibre (left_in (length out.old) (waiting (S.lists store.old) fibre)) }
+    ensures lists { S.lists store.new
+        ≡ slice_set (S.lists store.old) fibre
+        (left_in (length out.old) (waiting (S.lists store.old) fibre)) }
     ensures out { out.new ≡ taken_from (length out.old) (waiting (S.lists store.old) fibre) }
     ensures room { S.room store.new ≡ S.room store.old }
 {
@@ -23,7 +26,9 @@ fn take_record<S: Store>(store: &mut S, fibre: usize, out: &mut [u8])
 pub(crate) fn take_event<S: Store>(store: &mut S, lengths: &[u16; 12], out: &mut [u8])
     requires { event_length lengths.now ≤ length out.old }
     ensures lists { S.lists store.new ≡ for_fibres (left_by lengths.now (S.lists store.old)) }
-    ensures out { out.new ≡ in_fibre_order (record_in lengths.now (S.lists store.old)) ++ drop (event_length lengths.now) out.old }
+    ensures out { out.new
+        ≡ in_fibre_order (record_in lengths.now (S.lists store.old))
+        ++ drop (event_length lengths.now) out.old }
     ensures room { S.room store.new ≡ S.room store.old }
 {
     let mut at = 0;

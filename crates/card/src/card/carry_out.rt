@@ -83,6 +83,7 @@ impl<R: Rule + Drop, S: Store + Drop> Card<R, S> {
         }
         lent_enough(calls, bytes.len())?;
         let mut at = 0;
+        // Calls and answers by one index: a zip tells the proof nothing of what is written through its pairs.
         for (i, call) in calls.iter().enumerate() {
             answers[i] = self.answer(*call, bytes, at);
             at += call.lent();

@@ -15,7 +15,8 @@ use terms::Refusal;
 impl<R: Rule + Drop, S: Store + Drop> Card<R, S> {
     // Are all samples up to 1023? 7, with the lowest fibre whose sample is not.
     pub fn clock(&mut self, samples: &[u16; 12]) -> Result<Clocked, Refusal>
-        ensures step { CallStepped R.meaning self.old (the_clock samples.now) self.new (said_clock result) }
+        ensures step { CallStepped R.meaning self.old (the_clock samples.now)
+            self.new (said_clock result) }
         ensures rule { self.new.rule ≡ self.old.rule }
         ensures laws { CallKeepsLaws R.meaning self.old (the_clock samples.now) }
     {

@@ -28,7 +28,8 @@ fn oldest(waiting: &Waiting) -> [u16; 12]
 impl<R: Rule + Drop, S: Store + Drop> Card<R, S> {
     // Is a slip out? 10. Is the buffer long enough? 11, with the event's length. A refusal hands the slip back.
     pub fn fetch(&mut self, slip: Slip, buffer: &mut [u8]) -> Result<usize, Refused>
-        ensures step { CallStepped R.meaning self.old (the_fetch (length buffer.old)) self.new (said_fetch result buffer.new) }
+        ensures step { CallStepped R.meaning self.old (the_fetch (length buffer.old))
+            self.new (said_fetch result buffer.new) }
         ensures written { Fetched (oldest_bytes self.old.state.readout) buffer.old buffer.new result }
         ensures slip { HandedBack slip result }
         ensures rule { self.new.rule ≡ self.old.rule }

@@ -29,6 +29,7 @@ impl Core {
 }
 
 // How many bytes fit behind those that wait on a fibre.
+// By the fibre's number, as the store has it: making a Fibre of it takes a branch that never runs.
 fn free_room<S: Store>(store: &S, f: usize) -> usize
     requires { f < 12 }
     ensures { result ≡ S.room store.now - level_of (S.lists store.now) f }
