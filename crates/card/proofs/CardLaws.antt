@@ -32,12 +32,12 @@ laws_after meaning bounded core lists room small call made calls e =
     three_laws meaning made (subst (λ (r : ℕ). r ≤ largest) (same_room meaning core lists room made calls e) small) bounded (call ∷ calls)
 
 -- at a card over a store
-module _ {S : Type 0} (s : Ghosts S) (meaning : Meaning) (bounded : Bounded meaning) (core : Core) (store : S) where
+module _ {S : Type 0} (s : Ghosts S) (meaning : Meaning) (bounded : Bounded meaning) (core : Core) (store : S) (small : s.room store ≤ largest) where
   pub card_laws : (call : Call) → LawsAfter meaning (state_in s core store) call
-  card_laws = laws_after meaning bounded core (s.lists store) (s.room store) (s.sound store).limit
+  card_laws = laws_after meaning bounded core (s.lists store) (s.room store) small
 
   pub card_laws_list : (more : List Call) → LawsAfterList meaning (state_in s core store) more
-  card_laws_list = laws_after_list meaning bounded core (s.lists store) (s.room store) (s.sound store).limit
+  card_laws_list = laws_after_list meaning bounded core (s.lists store) (s.room store) small
 
 pub laws_of : (meaning : Meaning) → Bounded meaning → ShiftLaw meaning → (room : ℕ) → room ≤ largest
     → (calls : List Call) → LawsOf meaning room calls

@@ -1,6 +1,6 @@
 -- Lists of calls on a card, one call at a time.
 -- Assumes nothing.
-use Rattle.std.proofs.Common.{◌≡◌, ℕ, ◌+◌, ◌<◌, ◌≤◌, min, leb, List, [], ◌∷◌, map, reverse, length, get_or, take, drop, set, Some, None, Ok, Err, Result, sym, refl, ap, ◌∙◌, subst, ap₂, ⊎_elim, arith}
+use Rattle.std.proofs.Common.{◌≡◌, ℕ, ◌+◌, ◌<◌, ◌≤◌, min, leb, List, [], ◌∷◌, map, reverse, length, get_or, take, drop, set, Ok, Err, Result, sym, refl, ap, ◌∙◌, subst, ap₂, ⊎_elim, arith}
 use borrow.Rule.Slice.PartMut.{put_mid}
 use Rattle.std.specs.List.{AllByRecursion}
 use Rattle.std.proofs.lemmas.List.{map_push, map_more, reverse-append, take_more_set, take_all, take-take, take-append-le, drop-take, drop-drop, drop_at, drop-set-lt, length-take-le, length-drop}
@@ -22,7 +22,7 @@ use Rattle.card.specs.declared.clocked.Clocked.{Clocked}
 use Rattle.card.specs.declared.clocked.Clocked.TheVariants as clocked
 use Rattle.card.specs.declared.slip.Refused.{Refused}
 use Rattle.card.specs.Steps.{Stepped, Fetched, said_clocked, said_fetch}
-use Rattle.card.specs.Carrying.{Reply, call_of, answer_of, fetch_answer, lent_to, lent_in, newest_first, state_from, answers_from, largest_count, counted, bytes_question, carry_questions, LiesWithin, Answered, Carried, CarriedOut, RunThrough, RunOut}
+use Rattle.card.specs.Carrying.{Reply, call_of, answer_of, fetch_answer, lent_to, lent_in, newest_first, state_from, answers_from, largest_count, bytes_question, carry_questions, LiesWithin, Answered, Carried, CarriedOut, RunThrough, RunOut}
 
 -- ---- one call
 
@@ -141,17 +141,6 @@ newest_more cs i d here = ap reverse (map_more call_of cs i d here) ∙ reverse-
 pub lent_more : (cs : List Call) (i : ℕ) (d : Call) (sum n : ℕ) → i < length cs → sum ≡ lent_in (take i cs) → n ≡ lent_to (get_or cs i d)
     → sum + n ≡ lent_in (take (i + 1) cs)
 lent_more cs i d sum n here e is = ap₂ (λ (x y : ℕ). x + y) e is ∙ sym (sum_by_more lent_to cs i d here)
-
-pub lent_past : (cs : List Call) (i : ℕ) (d : Call) (sum n : ℕ) → i < length cs → sum ≡ lent_in (take i cs) → n ≡ lent_to (get_or cs i d)
-    → largest_count < sum + n → None ≡ counted (lent_in cs)
-lent_past cs i d sum n here e is over =
-    sym (cond-false (leb (lent_in cs) largest_count) (Some (lent_in cs)) None
-    (lt-leb (lent_in cs) largest_count (omega (arith, lent_more cs i d sum n here e is, sum_by-take-le lent_to cs (i + 1)))))
-
-pub lent_all : (cs : List Call) (i sum : ℕ) → length cs ≤ i → sum ≡ lent_in (take i cs) → sum ≤ largest_count → Some sum ≡ counted (lent_in cs)
-lent_all cs i sum end e small =
-    let is = e ∙ ap lent_in (take_all i cs end) in
-    ap Some is ∙ sym (cond-true (leb (lent_in cs) largest_count) (Some (lent_in cs)) None (le-leb (lent_in cs) largest_count (omega arith)))
 
 -- a buffer that is long enough for all
 enough : (lent long : ℕ) → Ok tt ≡ bytes_question lent long → lent ≤ long

@@ -11,7 +11,7 @@ returns-in_err-samples g c =
     (record {
       step = clock_refused _ _ _ _ _ _ c.in_err-samples.ensures.large;
       rule = refl;
-      laws = card_laws g.S.Store _ (g.met.R.Rule.bounded _) _ _ _;
+      laws = card_laws g.S.Store _ (g.met.R.Rule.bounded _) _ _ (g.S.Store.sound _).limit _;
     })
 
 pub returns-in-None : goal.returns-in-None
@@ -24,7 +24,7 @@ returns-in-None g c =
           clock_sought _ c.self.inside.core _ _ _ _ _ _ fits c.in-None.is c.tick-pulses.ensures.watches c.tick-pulses.ensures.pulses
           (c.seek.ensures _ _));
       rule = refl;
-      laws = card_laws g.S.Store _ (g.met.R.Rule.bounded _) _ _ _;
+      laws = card_laws g.S.Store _ (g.met.R.Rule.bounded _) _ _ (g.S.Store.sound _).limit _;
     })
 
 pub returns-in-Some : goal.returns-in-Some
@@ -35,5 +35,5 @@ returns-in-Some g c =
           as_read _ _ c.in_ok-samples.ensures.read _ _ _ _
           (λ fits. clock_captured _ c.self.inside.core _ _ _ _ _ _ _ fits c.in-Some.is c.tick-pulses.ensures.watches c.go_on.ensures);
       rule = refl;
-      laws = card_laws g.S.Store _ (g.met.R.Rule.bounded _) _ _ _;
+      laws = card_laws g.S.Store _ (g.met.R.Rule.bounded _) _ _ (g.S.Store.sound _).limit _;
     })

@@ -4,7 +4,7 @@ use Rattle.card.proofs.CardLaws.{card_laws}
 use Rattle.card.proofs.card.Card.fetch.Goals as goal
 
 pub returns-then-not-self : goal.returns-then-not-self
-returns-then-not-self g c = rw (← c.self.view_is) (record { step = fetch_refused _ _ _ _ _ c.if-not-self.true; written = refl; slip = refl; rule = refl; laws = card_laws g.S.Store _ (g.met.R.Rule.bounded _) _ _ _ })
+returns-then-not-self g c = rw (← c.self.view_is) (record { step = fetch_refused _ _ _ _ _ c.if-not-self.true; written = refl; slip = refl; rule = refl; laws = card_laws g.S.Store _ (g.met.R.Rule.bounded _) _ _ (g.S.Store.sound _).limit _ })
 
 pub returns-then-buffer-length : goal.returns-then-buffer-length
 returns-then-buffer-length g c =
@@ -15,7 +15,7 @@ returns-then-buffer-length g c =
       written = refl;
       slip = refl;
       rule = refl;
-      laws = card_laws g.S.Store _ (g.met.R.Rule.bounded _) _ _ _;
+      laws = card_laws g.S.Store _ (g.met.R.Rule.bounded _) _ _ (g.S.Store.sound _).limit _;
     })
 
 pub returns : goal.returns
@@ -38,5 +38,5 @@ returns g c =
       );
       slip = tt;
       rule = refl {a = c.self.inside.rule};
-      laws = card_laws g.S.Store _ (g.met.R.Rule.bounded _) _ _ _;
+      laws = card_laws g.S.Store _ (g.met.R.Rule.bounded _) _ _ (g.S.Store.sound _).limit _;
     })

@@ -7,7 +7,7 @@ use Rattle.card.proofs.card.Card.load.Goals as goal
 pub returns-in-Some : goal.returns-in-Some
 returns-in-Some g c =
     rw (← c.self.view_is)
-    (record { step = load_running _ _ _ _ _ _ c.in-Some.is; rule = refl; laws = card_laws g.S.Store _ (g.met.R.Rule.bounded _) _ _ _ })
+    (record { step = load_running _ _ _ _ _ _ c.in-Some.is; rule = refl; laws = card_laws g.S.Store _ (g.met.R.Rule.bounded _) _ _ (g.S.Store.sound _).limit _ })
 
 pub returns-in_err-setting : goal.returns-in_err-setting
 returns-in_err-setting g c =
@@ -16,7 +16,7 @@ returns-in_err-setting g c =
     (record {
       step = load_refused _ _ _ _ _ _ c.in_default.is c.in_err-setting.ensures.means;
       rule = refl;
-      laws = card_laws g.S.Store _ (g.met.R.Rule.bounded _) _ _ _;
+      laws = card_laws g.S.Store _ (g.met.R.Rule.bounded _) _ _ (g.S.Store.sound _).limit _;
     })
 
 pub returns : goal.returns
@@ -25,5 +25,5 @@ returns g c =
     (record {
       step = load_taken _ _ _ _ _ _ _ c.in_default.is c.in_ok-setting.ensures.means (c.apply.ensures _ _);
       rule = refl;
-      laws = card_laws g.S.Store _ (g.met.R.Rule.bounded _) _ _ _;
+      laws = card_laws g.S.Store _ (g.met.R.Rule.bounded _) _ _ (g.S.Store.sound _).limit _;
     })
