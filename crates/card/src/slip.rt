@@ -51,12 +51,12 @@ pub struct Refused {
     pub refusal: Refusal,
 }
 
-// Lets the slip go.
-impl From<Refused> for Refusal {
-    ghost from_gives = { λ refused refusal. refusal ≡ refused.refusal };
-
-    fn from(refused: Refused) -> Refusal {
-        let Refused { slip, refusal } = refused;
+impl Refused {
+    // Spends the slip, and tells why the call was refused.
+    pub(crate) fn spend(self) -> Refusal
+        ensures { result ≡ self.refusal }
+    {
+        let Refused { slip, refusal } = self;
         slip.spend();
         refusal
     }

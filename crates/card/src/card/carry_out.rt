@@ -20,8 +20,10 @@ impl<R: Rule + Drop, S: Store + Drop> Card<R, S> {
         ensures rule { self.new.rule ≡ self.old.rule }
     {
         let end = at + long;
-        let length = self.fetch(Slip::new(0), &mut bytes[at..end])?;
-        Ok(Answer::Fetched { at, length })
+        match self.fetch(Slip::new(0), &mut bytes[at..end]) {
+            Ok(length) => Ok(Answer::Fetched { at, length }),
+            Err(refused) => Err(refused.spend()),
+        }
     }
 
     // Carries out a call. A Fetch is lent its part of the bytes, from a place on.
@@ -46,10 +48,10 @@ impl<R: Rule + Drop, S: Store + Drop> Card<R, S> {
                 Ok(Answer::Slip(length))
             }
             Call::Fetch(long) => self.answer_fetch(long, bytes, at),
-            Call::GiveBack => {
-                self.give_back(Slip::new(0))?;
-                Ok(Answer::GivenBack)
-            }
+            Call::GiveBack => match self.give_back(Slip::new(0)) {
+                Ok(()) => Ok(Answer::GivenBack),
+                Err(refused) => Err(refused.spend()),
+            },
             Call::Level(fibre) => {
                 let level = self.level(fibre)?;
                 Ok(Answer::Level(level))

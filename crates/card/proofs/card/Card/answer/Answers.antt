@@ -1,6 +1,7 @@
 use Rattle.std.proofs.Common.{ℕ, refl, ap}
 use Rattle.std.proofs.lemmas.Result.{err_from_is_err_and}
-use Rattle.card_model.specs.Calls.{plain, slip}
+use Rattle.terms.specs.declared.refusal.Refusal.{Refusal}
+use Rattle.card_model.specs.Calls.{plain, slip, refused}
 use Rattle.card.proofs.Carrying.{answered_plain, no_bytes_clocked}
 use Rattle.card.proofs.card.Card.answer.Goals as goal
 
@@ -52,20 +53,20 @@ returns-in_ok-slip-in-Ask g c =
       rule = c.in_ok-slip-in-Ask.ensures.rule;
     }
 
-pub returns-in_err-give_back-in-GiveBack : goal.returns-in_err-give_back-in-GiveBack
-returns-in_err-give_back-in-GiveBack g c =
-    let p = err_from_is_err_and c.from_residual-in_err-give_back-in-GiveBack.result c.from_residual-in_err-give_back-in-GiveBack.ensures.1 in
-    rw (p.1, p.2)
-    (record {
-      step = answered_plain _ _ _ _ _ _ _ _ _ c.in-GiveBack.is c.in_err-give_back-in-GiveBack.ensures.step (λ bs. refl) tt;
-      rule = c.in_err-give_back-in-GiveBack.ensures.rule;
-    })
-
-pub returns-in_ok-give_back-in-GiveBack : goal.returns-in_ok-give_back-in-GiveBack
-returns-in_ok-give_back-in-GiveBack g c =
+pub returns-in-Ok : goal.returns-in-Ok
+returns-in-Ok g c =
     record {
-      step = answered_plain _ _ _ _ _ _ _ _ _ c.in-GiveBack.is c.in_ok-give_back-in-GiveBack.ensures.step (λ bs. refl) tt;
-      rule = c.in_ok-give_back-in-GiveBack.ensures.rule;
+      step = answered_plain _ _ _ _ _ _ _ _ _ c.in-GiveBack.is c.in-Ok.ensures.step (λ bs. refl) tt;
+      rule = c.in-Ok.ensures.rule;
+    }
+
+pub returns-in-Err : goal.returns-in-Err
+returns-in-Err g c =
+    record {
+      step =
+          answered_plain _ _ _ _ _ _ _ _ _ c.in-GiveBack.is c.in-Err.ensures.step
+          (λ bs. ap (λ (e : Refusal). plain (refused e)) c.spend-in-Err.ensures) tt;
+      rule = c.in-Err.ensures.rule;
     }
 
 pub returns-in_err-level-in-Level : goal.returns-in_err-level-in-Level
