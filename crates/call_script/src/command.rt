@@ -1,5 +1,7 @@
 // What a line of a call script asks for.
+use chosen::ChosenRule;
 use stores::StoreCall;
+use terms::FIBRES;
 
 // The memory of a store: a ring of bytes or a ring of 32-bit words, over so many of them.
 #[derive(Clone, Copy)]
@@ -8,20 +10,12 @@ pub enum Memory {
     Words(usize),
 }
 
-// A common-mode rule; the fixed rule has a number for each chip.
-#[derive(Clone, Copy)]
-pub enum RuleName {
-    Rank,
-    Mean,
-    Fixed([u16; 24]),
-}
-
 // A call of the current card.
 #[derive(Clone, Copy)]
 pub enum CardCall {
     Load(u32),
     // The same Clock so many times.
-    Clock(u32, [u16; 12]),
+    Clock { times: u32, samples: [u16; FIBRES] },
     Ask,
     // A Fetch into a buffer of so many bytes.
     Fetch(usize),
@@ -34,13 +28,13 @@ pub enum CardCall {
 #[derive(Clone, Copy)]
 pub enum EventQuestion {
     Record(usize),
-    Cluster(usize, usize),
+    Cluster { fibre: usize, index: usize },
 }
 
 #[derive(Drop)]
 pub enum Command {
     // A new card in the current place.
-    Card(Memory, RuleName),
+    Card(Memory, ChosenRule),
     // The other place becomes the current one.
     Swap,
     OfCard(CardCall),
@@ -48,9 +42,13 @@ pub enum Command {
     Store(Memory),
     OfStore(StoreCall),
     // The rule that estimates are asked of.
-    Rule(RuleName),
+    Rule(ChosenRule),
     // An estimate of a chip, with a rank setting and values.
-    Estimate(usize, u8, Vec<u16>),
+    Estimate {
+        chip: usize,
+        setting: u8,
+        values: Vec<u16>,
+    },
     // An event in these bytes.
     Unpack(Vec<u8>),
     // An event in the bytes that were fetched last.

@@ -8,7 +8,7 @@ pub mod numbers;
 pub mod parse;
 pub mod words;
 
-pub use command::{CardCall, Command, EventQuestion, Memory, RuleName};
+pub use command::{CardCall, Command, EventQuestion, Memory};
 pub use lines::first_line;
 pub use numbers::{read_byte, read_bytes, read_number, read_setting};
 pub use parse::{Unread, parse_line};

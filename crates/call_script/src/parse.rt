@@ -3,10 +3,12 @@ ghost use Rattle.std.specs.Prelude.{◌≤◌, IfOk, vec_len, MatchResult};
 ghost use Rattle.std.specs.Option as Options;
 ghost use Rattle.call_script.specs.Commands.{SmallMemory, SmallCall, KeepsLimits, Silent, Speaks};
 
-use crate::command::{CardCall, Command, EventQuestion, Memory, RuleName};
+use crate::command::{CardCall, Command, EventQuestion, Memory};
 use crate::names::{CardName, Name, StoreName, name_of};
 use crate::numbers::{read_byte, read_bytes, read_number, read_setting};
 use crate::words::first_word;
+use chosen::ChosenRule;
+use rules::Fixed;
 use std::alloc::{AllocError, AllocFailed, Global};
 use stores::StoreCall;
 
@@ -63,10 +65,7 @@ impl<'a> Words<'a> {
     }
 
     fn word(&mut self) -> Result<&'a [u8], Unread> {
-        match self.next() {
-            Some(word) => Ok(word),
-            None => Err(Unread::BadLine),
-        }
+        self.next().ok_or(Unread::BadLine)
     }
 
     // No word is left.
@@ -81,10 +80,7 @@ impl<'a> Words<'a> {
     fn number(&mut self, limit: u32) -> Result<u32, Unread>
         ensures { IfOk result (λ n. n ≤ limit) }
     {
-        match read_number(self.word()?, limit) {
-            Some(number) => Ok(number),
-            None => Err(Unread::BadLine),
-        }
+        read_number(self.word()?, limit).ok_or(Unread::BadLine)
     }
 
     // A number as an index.
@@ -93,17 +89,11 @@ impl<'a> Words<'a> {
     }
 
     fn setting(&mut self) -> Result<u32, Unread> {
-        match read_setting(self.word()?) {
-            Some(setting) => Ok(setting),
-            None => Err(Unread::BadLine),
-        }
+        read_setting(self.word()?).ok_or(Unread::BadLine)
     }
 
     fn byte(&mut self) -> Result<u8, Unread> {
-        match read_byte(self.word()?) {
-            Some(byte) => Ok(byte),
-            None => Err(Unread::BadLine),
-        }
+        read_byte(self.word()?).ok_or(Unread::BadLine)
     }
 
     // Twelve or twenty-four numbers of sixteen bits.
@@ -129,14 +119,15 @@ impl<'a> Words<'a> {
         }
     }
 
-    fn rule(&mut self) -> Result<RuleName, Unread> {
+    fn rule(&mut self) -> Result<ChosenRule, Unread> {
         let name = self.word()?;
         if name == b"rank".as_slice() {
-            Ok(RuleName::Rank)
+            Ok(ChosenRule::Rank)
         } else if name == b"mean".as_slice() {
-            Ok(RuleName::Mean)
+            Ok(ChosenRule::Mean)
         } else if name == b"fixed".as_slice() {
-            Ok(RuleName::Fixed(self.shorts()?))
+            let numbers = self.shorts()?;
+            Ok(ChosenRule::Fixed(Fixed { numbers }))
         } else {
             Err(Unread::BadLine)
         }
@@ -166,10 +157,14 @@ fn card_call(name: CardName, words: &mut Words<'_>) -> Result<CardCall, Unread>
 {
     match name {
         CardName::Load => Ok(CardCall::Load(words.setting()?)),
-        CardName::Clock => Ok(CardCall::Clock(1, words.shorts()?)),
+        CardName::Clock => Ok(CardCall::Clock {
+            times: 1,
+            samples: words.shorts()?,
+        }),
         CardName::Clocks => {
             let times = words.number(MOST_CLOCKS)?;
-            Ok(CardCall::Clock(times, words.shorts()?))
+            let samples = words.shorts()?;
+            Ok(CardCall::Clock { times, samples })
         }
         CardName::Ask => Ok(CardCall::Ask),
         CardName::Fetch => Ok(CardCall::Fetch(words.number(LONGEST_BUFFER)? as usize)),
@@ -206,10 +201,8 @@ fn unpack(heap: Global, word: &[u8]) -> Result<Command, Unread>
     if word.len() > MOST_DIGITS {
         return Err(Unread::BadLine);
     }
-    match read_bytes(heap, word)? {
-        Some(bytes) => Ok(Command::Unpack(bytes)),
-        None => Err(Unread::BadLine),
-    }
+    let bytes = read_bytes(heap, word)?.ok_or(Unread::BadLine)?;
+    Ok(Command::Unpack(bytes))
 }
 
 // An estimate, with the values up to the end of the line.
@@ -218,7 +211,12 @@ fn estimate(heap: Global, words: &mut Words<'_>) -> Result<Command, Unread>
 {
     let chip = words.index()?;
     let setting = words.number(LARGEST_SETTING)? as u8;
-    Ok(Command::Estimate(chip, setting, words.values(heap)?))
+    let values = words.values(heap)?;
+    Ok(Command::Estimate {
+        chip,
+        setting,
+        values,
+    })
 }
 
 // The command of a name, with the words behind it that it takes.
@@ -240,7 +238,8 @@ fn command(heap: Global, name: Name, words: &mut Words<'_>) -> Result<Command, U
         Name::Record => Ok(Command::OfEvent(EventQuestion::Record(words.index()?))),
         Name::Cluster => {
             let fibre = words.index()?;
-            Ok(Command::OfEvent(EventQuestion::Cluster(fibre, words.index()?)))
+            let index = words.index()?;
+            Ok(Command::OfEvent(EventQuestion::Cluster { fibre, index }))
         }
     }
 }
@@ -268,8 +267,5 @@ pub fn parse_line(heap: Global, line: &[u8]) -> Result<Option<Command>, Unread>
     if name[0] == b'#' {
         return Ok(None);
     }
-    match whole_command(heap, name, rest) {
-        Ok(command) => Ok(Some(command)),
-        Err(unread) => Err(unread),
-    }
+    Ok(Some(whole_command(heap, name, rest)?))
 }
