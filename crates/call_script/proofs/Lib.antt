@@ -1,3 +1,1 @@
-pub mod Breaks
-pub mod Splits
 pub mod Written

@@ -51,13 +51,18 @@ setting_is word o some few e =
     ap (λ b. asked b (written hex_digit 16 0 word)) (ap₂ ◌&&◌ (le-leb 1 (length word) (omega arith)) (le-leb (length word) 8 few)) ∙ e
 
 -- a byte more
-pub bytes_more : (xs done : List ℕ) (b : ℕ) → 2 ≤ length xs → Some b ≡ byte_in (get_or xs 0 0 ∷ get_or xs 1 0 ∷ []) → and_then (bytes_in (drop 2 xs)) (λ bs. Some ((done ++ b ∷ []) ++ bs)) ≡ and_then (bytes_in xs) (λ bs. Some (done ++ bs))
-bytes_more [] done b two e = absurd (omega arith)
-bytes_more (high ∷ []) done b two e = absurd (omega arith)
-bytes_more (high ∷ low ∷ rest) done b two e =
+pub bytes_more : (high low b : ℕ) (rest done : List ℕ) → Some b ≡ byte_in (high ∷ low ∷ []) → and_then (bytes_in rest) (λ bs. Some ((done ++ b ∷ []) ++ bs)) ≡ and_then (bytes_in (high ∷ low ∷ rest)) (λ bs. Some (done ++ bs))
+bytes_more high low b rest done e =
     let go : and_then (bytes_in rest) (λ bs. Some ((done ++ b ∷ []) ++ bs)) ≡ and_then (and_then (bytes_in rest) (λ bs. Some (b ∷ bs))) (λ bs. Some (done ++ bs)) =
     elim (bytes_in rest) as (λ o. and_then o (λ bs. Some ((done ++ b ∷ []) ++ bs)) ≡ and_then (and_then o (λ bs. Some (b ∷ bs))) (λ bs. Some (done ++ bs))) [
       | None ↦ refl
       | Some bs ↦ ap Some (append_assoc done (b ∷ []) bs)
     ] in
     go ∙ ap (λ o. and_then (and_then o (λ x. and_then (bytes_in rest) (λ bs. Some (x ∷ bs)))) (λ bs. Some (done ++ bs))) e
+
+-- digits that are a byte are two
+pub chunk_more : (digits rest done : List ℕ) (b : ℕ) → Some b ≡ byte_in digits → and_then (bytes_in rest) (λ bs. Some ((done ++ b ∷ []) ++ bs)) ≡ and_then (bytes_in (digits ++ rest)) (λ bs. Some (done ++ bs))
+chunk_more [] rest done b e = cc
+chunk_more (high ∷ []) rest done b e = cc
+chunk_more (high ∷ low ∷ []) rest done b e = bytes_more high low b rest done e
+chunk_more (high ∷ low ∷ more ∷ others) rest done b e = cc

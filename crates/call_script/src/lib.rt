@@ -3,7 +3,6 @@
 
 pub mod command;
 pub mod lines;
-mod names;
 pub mod numbers;
 pub mod parse;
 pub mod words;

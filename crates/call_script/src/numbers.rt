@@ -8,25 +8,17 @@ use std::alloc::{AllocError, Global};
 // The most digits of a setting word.
 const SETTING_DIGITS: usize = 8;
 
-fn decimal_digit(byte: u8) -> Option<u8>
+fn decimal_digit(byte: u8) -> Option<u32>
     ensures { result ≡ decimal_digit byte }
 {
-    match byte {
-        b'0'..=b'9' => Some(byte - b'0'),
-        _ => None,
-    }
+    char::from(byte).to_digit(10)
 }
 
-fn hex_digit(byte: u8) -> Option<u8>
+fn hex_digit(byte: u8) -> Option<u32>
     ensures value { result ≡ hex_digit byte }
     ensures bound { IfSome result (λ d. d < 16) }
 {
-    match byte {
-        b'0'..=b'9' => Some(byte - b'0'),
-        b'A'..=b'F' => Some(byte - b'A' + 10),
-        b'a'..=b'f' => Some(byte - b'a' + 10),
-        _ => None,
-    }
+    char::from(byte).to_digit(16)
 }
 
 // A number: one or more decimal digits and nothing else, up to a limit.
@@ -58,7 +50,7 @@ pub fn read_setting(word: &[u8]) -> Option<u32>
     let mut setting: u32 = 0;
     for byte in word {
         let digit = hex_digit(*byte)?;
-        setting = 16 * setting + u32::from(digit);
+        setting = 16 * setting + digit;
     }
     Some(setting)
 }
@@ -72,7 +64,7 @@ pub fn read_byte(word: &[u8]) -> Option<u8>
     };
     let high = hex_digit(*high)?;
     let low = hex_digit(*low)?;
-    Some(16 * high + low)
+    Some((16 * high + low) as u8)
 }
 
 // Bytes one after the other, two hexadecimal digits each.
@@ -80,17 +72,11 @@ pub fn read_bytes(heap: Global, word: &[u8]) -> Result<Option<Vec<u8>>, AllocErr
     ensures { IfOk result (λ o. option_map vec_items o ≡ bytes_in word.now) }
 {
     let mut bytes = Vec::new(heap);
-    let mut left = word;
-    while let [high, low, rest @ ..] = left {
-        let Some(byte) = read_byte(&[*high, *low]) else {
+    for digits in word.chunks(2) {
+        let Some(byte) = read_byte(digits) else {
             return Ok(None);
         };
         bytes.push(byte)?;
-        left = rest;
     }
-    if left.is_empty() {
-        Ok(Some(bytes))
-    } else {
-        Ok(None)
-    }
+    Ok(Some(bytes))
 }

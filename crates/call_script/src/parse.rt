@@ -1,15 +1,16 @@
 // Reads a line of a call script.
-ghost use Rattle.std.specs.Prelude.{◌≤◌, IfOk, vec_len, MatchResult};
+ghost use Rattle.std.specs.Prelude.{◌≤◌, length, IfOk, vec_len, MatchResult};
+ghost use Rattle.std.specs.Iterator.{at_most};
 ghost use Rattle.std.specs.Option as Options;
 ghost use Rattle.call_script.specs.Commands.{SmallMemory, SmallCall, KeepsLimits, Silent, Speaks};
 
 use crate::command::{CardCall, Command, EventQuestion, Memory};
-use crate::names::{CardName, Name, StoreName, name_of};
 use crate::numbers::{read_byte, read_bytes, read_number, read_setting};
 use crate::words::first_word;
 use chosen::ChosenRule;
 use rules::Fixed;
 use std::alloc::{AllocError, AllocFailed, Global};
+use std::str;
 use stores::StoreCall;
 
 // The largest number.
@@ -50,22 +51,37 @@ impl<T: Drop> From<AllocFailed<T>> for Unread {
     }
 }
 
+// A number of sixteen bits.
+fn read_short(word: &[u8]) -> Option<u16> {
+    Some(read_number(word, LARGEST_SHORT)? as u16)
+}
+
 // The words of a line that are still to be read.
 #[derive(Drop)]
 struct Words<'a> {
     left: &'a [u8],
 }
 
-impl<'a> Words<'a> {
-    // The next word; none behind the last.
+impl<'a> Iterator for Words<'a> {
+    type Item = &'a [u8];
+
+    ghost remaining = { λ words. at_most (length words.left.now) };
+
     fn next(&mut self) -> Option<&'a [u8]> {
         let (word, rest) = first_word(self.left)?;
         self.left = rest;
         Some(word)
     }
+}
 
+impl<'a> Words<'a> {
     fn word(&mut self) -> Result<&'a [u8], Unread> {
         self.next().ok_or(Unread::BadLine)
+    }
+
+    // A word that is a name of something.
+    fn name(&mut self) -> Result<&'a str, Unread> {
+        str::from_utf8(self.word()?).map_err(|_| Unread::BadLine)
     }
 
     // No word is left.
@@ -100,7 +116,7 @@ impl<'a> Words<'a> {
     fn shorts<const N: usize>(&mut self) -> Result<[u16; N], Unread> {
         let mut numbers = [0; N];
         for number in numbers.iter_mut() {
-            *number = self.number(LARGEST_SHORT)? as u16;
+            *number = read_short(self.word()?).ok_or(Unread::BadLine)?;
         }
         Ok(numbers)
     }
@@ -108,28 +124,24 @@ impl<'a> Words<'a> {
     fn memory(&mut self) -> Result<Memory, Unread>
         ensures { IfOk result SmallMemory }
     {
-        let kind = self.word()?;
+        let kind = self.name()?;
         let size = self.number(MOST_MEMORY)? as usize;
-        if kind == b"bytes".as_slice() {
-            Ok(Memory::Bytes(size))
-        } else if kind == b"words".as_slice() {
-            Ok(Memory::Words(size))
-        } else {
-            Err(Unread::BadLine)
+        match kind {
+            "bytes" => Ok(Memory::Bytes(size)),
+            "words" => Ok(Memory::Words(size)),
+            _ => Err(Unread::BadLine),
         }
     }
 
     fn rule(&mut self) -> Result<ChosenRule, Unread> {
-        let name = self.word()?;
-        if name == b"rank".as_slice() {
-            Ok(ChosenRule::Rank)
-        } else if name == b"mean".as_slice() {
-            Ok(ChosenRule::Mean)
-        } else if name == b"fixed".as_slice() {
-            let numbers = self.shorts()?;
-            Ok(ChosenRule::Fixed(Fixed { numbers }))
-        } else {
-            Err(Unread::BadLine)
+        match self.name()? {
+            "rank" => Ok(ChosenRule::Rank),
+            "mean" => Ok(ChosenRule::Mean),
+            "fixed" => {
+                let numbers = self.shorts()?;
+                Ok(ChosenRule::Fixed(Fixed { numbers }))
+            }
+            _ => Err(Unread::BadLine),
         }
     }
 
@@ -138,71 +150,19 @@ impl<'a> Words<'a> {
         ensures { IfOk result (λ v. vec_len v ≤ 1000) }
     {
         let mut values = Vec::new(heap);
-        for _taken in 0..MOST_VALUES {
-            let Some(word) = self.next() else {
-                break;
-            };
-            match read_number(word, LARGEST_SHORT) {
-                Some(value) => values.push(value as u16)?,
-                None => return Err(Unread::BadLine),
-            }
+        for word in self.take(MOST_VALUES) {
+            values.push(read_short(word).ok_or(Unread::BadLine)?)?;
         }
         Ok(values)
     }
 }
 
-// A call of the card.
-fn card_call(name: CardName, words: &mut Words<'_>) -> Result<CardCall, Unread>
-    ensures { IfOk result SmallCall }
-{
-    match name {
-        CardName::Load => Ok(CardCall::Load(words.setting()?)),
-        CardName::Clock => Ok(CardCall::Clock {
-            times: 1,
-            samples: words.shorts()?,
-        }),
-        CardName::Clocks => {
-            let times = words.number(MOST_CLOCKS)?;
-            let samples = words.shorts()?;
-            Ok(CardCall::Clock { times, samples })
-        }
-        CardName::Ask => Ok(CardCall::Ask),
-        CardName::Fetch => Ok(CardCall::Fetch(words.number(LONGEST_BUFFER)? as usize)),
-        CardName::GiveBack => Ok(CardCall::GiveBack),
-        CardName::Level => Ok(CardCall::Level(words.index()?)),
-        CardName::Reset => Ok(CardCall::Reset),
-    }
-}
-
-// A call of the store.
-fn store_call(name: StoreName, words: &mut Words<'_>) -> Result<StoreCall, Unread> {
-    match name {
-        StoreName::Put => {
-            let fibre = words.index()?;
-            Ok(StoreCall::Put(fibre, words.byte()?))
-        }
-        StoreName::Take => Ok(StoreCall::Take(words.index()?)),
-        StoreName::Count => Ok(StoreCall::Level(words.index()?)),
-        StoreName::Capacity => Ok(StoreCall::Capacity),
-        StoreName::Clear => Ok(StoreCall::Clear),
-    }
-}
-
-// The bytes of an event, or the word that stands for those that were fetched last.
-fn unpack(heap: Global, word: &[u8]) -> Result<Command, Unread>
+// A new card, with a store and a rule of its own.
+fn card(words: &mut Words<'_>) -> Result<Command, Unread>
     ensures { IfOk result KeepsLimits }
 {
-    if word == b"last".as_slice() {
-        return Ok(Command::UnpackLast);
-    }
-    if word == b"-".as_slice() {
-        return Ok(Command::Unpack(Vec::new(heap)));
-    }
-    if word.len() > MOST_DIGITS {
-        return Err(Unread::BadLine);
-    }
-    let bytes = read_bytes(heap, word)?.ok_or(Unread::BadLine)?;
-    Ok(Command::Unpack(bytes))
+    let memory = words.memory()?;
+    Ok(Command::Card(memory, words.rule()?))
 }
 
 // An estimate, with the values up to the end of the line.
@@ -219,38 +179,102 @@ fn estimate(heap: Global, words: &mut Words<'_>) -> Result<Command, Unread>
     })
 }
 
+// The bytes of an event, or the word that stands for those that were fetched last.
+fn unpack(heap: Global, word: &str) -> Result<Command, Unread>
+    ensures { IfOk result KeepsLimits }
+{
+    match word {
+        "last" => Ok(Command::UnpackLast),
+        "-" => Ok(Command::Unpack(Vec::new(heap))),
+        digits => {
+            if digits.len() > MOST_DIGITS {
+                return Err(Unread::BadLine);
+            }
+            let bytes = read_bytes(heap, digits.as_bytes())?.ok_or(Unread::BadLine)?;
+            Ok(Command::Unpack(bytes))
+        }
+    }
+}
+
+// The cluster of an index in the record of a fibre.
+fn cluster(words: &mut Words<'_>) -> Result<EventQuestion, Unread> {
+    let fibre = words.index()?;
+    let index = words.index()?;
+    Ok(EventQuestion::Cluster { fibre, index })
+}
+
 // The command of a name, with the words behind it that it takes.
-fn command(heap: Global, name: Name, words: &mut Words<'_>) -> Result<Command, Unread>
+fn command(heap: Global, name: &str, words: &mut Words<'_>) -> Result<Command, Unread>
     ensures { IfOk result KeepsLimits }
 {
     match name {
-        Name::Card => {
-            let memory = words.memory()?;
-            Ok(Command::Card(memory, words.rule()?))
-        }
-        Name::Swap => Ok(Command::Swap),
-        Name::OfCard(name) => Ok(Command::OfCard(card_call(name, words)?)),
-        Name::Store => Ok(Command::Store(words.memory()?)),
-        Name::OfStore(name) => Ok(Command::OfStore(store_call(name, words)?)),
-        Name::Rule => Ok(Command::Rule(words.rule()?)),
-        Name::Estimate => estimate(heap, words),
-        Name::Unpack => unpack(heap, words.word()?),
-        Name::Record => Ok(Command::OfEvent(EventQuestion::Record(words.index()?))),
-        Name::Cluster => {
-            let fibre = words.index()?;
-            let index = words.index()?;
-            Ok(Command::OfEvent(EventQuestion::Cluster { fibre, index }))
-        }
+        "card" => card(words),
+        "swap" => Ok(Command::Swap),
+        "store" => Ok(Command::Store(words.memory()?)),
+        "rule" => Ok(Command::Rule(words.rule()?)),
+        "estimate" => estimate(heap, words),
+        "unpack" => unpack(heap, words.name()?),
+        "record" => Ok(Command::OfEvent(EventQuestion::Record(words.index()?))),
+        "cluster" => Ok(Command::OfEvent(cluster(words)?)),
+        _ => call(name, words),
     }
+}
+
+// A call of the store or of the card.
+fn call(name: &str, words: &mut Words<'_>) -> Result<Command, Unread>
+    ensures { IfOk result KeepsLimits }
+{
+    match name {
+        "put" => Ok(Command::OfStore(put(words)?)),
+        "take" => Ok(Command::OfStore(StoreCall::Take(words.index()?))),
+        "count" => Ok(Command::OfStore(StoreCall::Level(words.index()?))),
+        "capacity" => Ok(Command::OfStore(StoreCall::Capacity)),
+        "clear" => Ok(Command::OfStore(StoreCall::Clear)),
+        _ => Ok(Command::OfCard(card_call(name, words)?)),
+    }
+}
+
+// A byte put on a fibre.
+fn put(words: &mut Words<'_>) -> Result<StoreCall, Unread> {
+    let fibre = words.index()?;
+    let byte = words.byte()?;
+    Ok(StoreCall::Put(fibre, byte))
+}
+
+// A call of the card.
+fn card_call(name: &str, words: &mut Words<'_>) -> Result<CardCall, Unread>
+    ensures { IfOk result SmallCall }
+{
+    match name {
+        "load" => Ok(CardCall::Load(words.setting()?)),
+        "clock" => clock(1, words),
+        "clocks" => {
+            let times = words.number(MOST_CLOCKS)?;
+            clock(times, words)
+        }
+        "ask" => Ok(CardCall::Ask),
+        "fetch" => Ok(CardCall::Fetch(words.number(LONGEST_BUFFER)? as usize)),
+        "giveback" => Ok(CardCall::GiveBack),
+        "level" => Ok(CardCall::Level(words.index()?)),
+        "reset" => Ok(CardCall::Reset),
+        _ => Err(Unread::BadLine),
+    }
+}
+
+// The same Clock so many times.
+fn clock(times: u32, words: &mut Words<'_>) -> Result<CardCall, Unread>
+    requires { times ≤ 100000 }
+    ensures { IfOk result SmallCall }
+{
+    let samples = words.shorts()?;
+    Ok(CardCall::Clock { times, samples })
 }
 
 // The command of a line whose first word is `name`, and no word more than it takes.
 fn whole_command(heap: Global, name: &[u8], rest: &[u8]) -> Result<Command, Unread>
     ensures { IfOk result KeepsLimits }
 {
-    let Some(name) = name_of(name) else {
-        return Err(Unread::BadLine);
-    };
+    let name = str::from_utf8(name).map_err(|_| Unread::BadLine)?;
     let mut words = Words { left: rest };
     let command = command(heap, name, &mut words)?;
     words.end()?;

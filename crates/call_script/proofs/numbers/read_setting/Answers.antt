@@ -21,7 +21,7 @@ loop-byte-preserved c =
     let i = c.loop-byte.byte-index in
     let more = written_more hex_digit 16 c.loop-byte.setting xs i c.in_ok-digit.digit c.loop-byte-test.true c.in_ok-digit.ensures.value in
     let small = hex_more c.loop-byte.setting i c.in_ok-digit.digit c.loop-byte.invariant.1 c.in_ok-digit.ensures.bound in
-    simp c.from.ensures (sym more ∙ c.loop-byte.invariant.0, small)
+    (sym more ∙ c.loop-byte.invariant.0, small)
 
 pub returns : goal.returns
 returns c =
