@@ -3,6 +3,7 @@
 #![tactic(auto)]
 
 mod block;
+mod misread;
 mod numbers;
 mod records;
 
@@ -22,7 +23,7 @@ fn main(rt: HostRuntime) -> io::Result<()> {
             print_records(&mut out, blocks, &block)?;
             blocks = blocks.saturating_add(1);
             block = Block::fresh();
-        } else if block.take(line).is_none() {
+        } else if block.take(line).is_err() {
             writeln!(out, "block {blocks}: not understood: {line}")?;
         }
     }
