@@ -1,13 +1,21 @@
 // What a line of a call script asks for.
+use crate::limits::{UpTo, Values};
 use chosen::ChosenRule;
 use stores::StoreCall;
 use terms::FIBRES;
 
+// The most bytes or words of a store.
+pub const MOST_MEMORY: u32 = 1_000_000;
+// The most Clocks of a line.
+pub const MOST_CLOCKS: u32 = 100_000;
+// The longest buffer of a Fetch.
+pub const LONGEST_BUFFER: u32 = 100_000;
+
 // The memory of a store: a ring of bytes or a ring of 32-bit words, over so many of them.
 #[derive(Clone, Copy)]
 pub enum Memory {
-    Bytes(usize),
-    Words(usize),
+    Bytes(UpTo<MOST_MEMORY>),
+    Words(UpTo<MOST_MEMORY>),
 }
 
 // A call of the current card.
@@ -15,10 +23,13 @@ pub enum Memory {
 pub enum CardCall {
     Load(u32),
     // The same Clock so many times.
-    Clock { times: u32, samples: [u16; FIBRES] },
+    Clock {
+        times: UpTo<MOST_CLOCKS>,
+        samples: [u16; FIBRES],
+    },
     Ask,
     // A Fetch into a buffer of so many bytes.
-    Fetch(usize),
+    Fetch(UpTo<LONGEST_BUFFER>),
     GiveBack,
     Level(usize),
     Reset,
@@ -47,7 +58,7 @@ pub enum Command {
     Estimate {
         chip: usize,
         setting: u8,
-        values: Vec<u16>,
+        values: Values,
     },
     // An event in these bytes.
     Unpack(Vec<u8>),

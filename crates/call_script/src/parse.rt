@@ -1,10 +1,12 @@
 // Reads a line of a call script.
-ghost use Rattle.std.specs.Prelude.{◌≤◌, length, IfOk, vec_len, MatchResult};
+ghost use Rattle.std.specs.Prelude.{◌≤◌, length, IfOk, IfSome, OnErr};
 ghost use Rattle.std.specs.Iterator.{at_most};
-ghost use Rattle.std.specs.Option as Options;
-ghost use Rattle.call_script.specs.Commands.{SmallMemory, SmallCall, KeepsLimits, Silent, Speaks};
+ghost use Rattle.call_script.specs.Commands.{KeepsLimits, Asks, Speaks};
 
-use crate::command::{CardCall, Command, EventQuestion, Memory};
+use crate::command::{
+    CardCall, Command, EventQuestion, LONGEST_BUFFER, MOST_CLOCKS, MOST_MEMORY, Memory,
+};
+use crate::limits::{UpTo, Values};
 use crate::numbers::{read_byte, read_bytes, read_number, read_setting};
 use crate::words::first_word;
 use chosen::ChosenRule;
@@ -19,12 +21,6 @@ const LARGEST: u32 = 4_294_967_295;
 const LARGEST_SHORT: u32 = 65_535;
 // The largest rank setting.
 const LARGEST_SETTING: u32 = 255;
-// The most bytes or words of a store.
-const MOST_MEMORY: u32 = 1_000_000;
-// The most Clocks of a line.
-const MOST_CLOCKS: u32 = 100_000;
-// The longest buffer of a Fetch.
-const LONGEST_BUFFER: u32 = 100_000;
 // The most values of an estimate.
 const MOST_VALUES: usize = 1000;
 // The most digits of an event.
@@ -99,6 +95,11 @@ impl<'a> Words<'a> {
         read_number(self.word()?, limit).ok_or(Unread::BadLine)
     }
 
+    fn up_to<const MOST: u32>(&mut self) -> Result<UpTo<MOST>, Unread> {
+        let number = self.number(MOST)?;
+        Ok(UpTo { number })
+    }
+
     // A number as an index.
     fn index(&mut self) -> Result<usize, Unread> {
         Ok(self.number(LARGEST)? as usize)
@@ -121,11 +122,9 @@ impl<'a> Words<'a> {
         Ok(numbers)
     }
 
-    fn memory(&mut self) -> Result<Memory, Unread>
-        ensures { IfOk result SmallMemory }
-    {
+    fn memory(&mut self) -> Result<Memory, Unread> {
         let kind = self.name()?;
-        let size = self.number(MOST_MEMORY)? as usize;
+        let size = self.up_to::<MOST_MEMORY>()?;
         match kind {
             "bytes" => Ok(Memory::Bytes(size)),
             "words" => Ok(Memory::Words(size)),
@@ -146,29 +145,23 @@ impl<'a> Words<'a> {
     }
 
     // Values up to the end of the line, or as many as an estimate takes.
-    fn values(&mut self, heap: Global) -> Result<Vec<u16>, Unread>
-        ensures { IfOk result (λ v. vec_len v ≤ 1000) }
-    {
-        let mut values = Vec::new(heap);
+    fn values(&mut self, heap: Global) -> Result<Values, Unread> {
+        let mut list = Vec::new(heap);
         for word in self.take(MOST_VALUES) {
-            values.push(read_short(word).ok_or(Unread::BadLine)?)?;
+            list.push(read_short(word).ok_or(Unread::BadLine)?)?;
         }
-        Ok(values)
+        Ok(Values { list })
     }
 }
 
 // A new card, with a store and a rule of its own.
-fn card(words: &mut Words<'_>) -> Result<Command, Unread>
-    ensures { IfOk result KeepsLimits }
-{
+fn card(words: &mut Words<'_>) -> Result<Command, Unread> {
     let memory = words.memory()?;
     Ok(Command::Card(memory, words.rule()?))
 }
 
 // An estimate, with the values up to the end of the line.
-fn estimate(heap: Global, words: &mut Words<'_>) -> Result<Command, Unread>
-    ensures { IfOk result KeepsLimits }
-{
+fn estimate(heap: Global, words: &mut Words<'_>) -> Result<Command, Unread> {
     let chip = words.index()?;
     let setting = words.number(LARGEST_SETTING)? as u8;
     let values = words.values(heap)?;
@@ -180,9 +173,7 @@ fn estimate(heap: Global, words: &mut Words<'_>) -> Result<Command, Unread>
 }
 
 // The bytes of an event, or the word that stands for those that were fetched last.
-fn unpack(heap: Global, word: &str) -> Result<Command, Unread>
-    ensures { IfOk result KeepsLimits }
-{
+fn unpack(heap: Global, word: &str) -> Result<Command, Unread> {
     match word {
         "last" => Ok(Command::UnpackLast),
         "-" => Ok(Command::Unpack(Vec::new(heap))),
@@ -204,9 +195,7 @@ fn cluster(words: &mut Words<'_>) -> Result<EventQuestion, Unread> {
 }
 
 // The command of a name, with the words behind it that it takes.
-fn command(heap: Global, name: &str, words: &mut Words<'_>) -> Result<Command, Unread>
-    ensures { IfOk result KeepsLimits }
-{
+fn command(heap: Global, name: &str, words: &mut Words<'_>) -> Result<Command, Unread> {
     match name {
         "card" => card(words),
         "swap" => Ok(Command::Swap),
@@ -221,9 +210,7 @@ fn command(heap: Global, name: &str, words: &mut Words<'_>) -> Result<Command, U
 }
 
 // A call of the store or of the card.
-fn call(name: &str, words: &mut Words<'_>) -> Result<Command, Unread>
-    ensures { IfOk result KeepsLimits }
-{
+fn call(name: &str, words: &mut Words<'_>) -> Result<Command, Unread> {
     match name {
         "put" => Ok(Command::OfStore(put(words)?)),
         "take" => Ok(Command::OfStore(StoreCall::Take(words.index()?))),
@@ -242,18 +229,16 @@ fn put(words: &mut Words<'_>) -> Result<StoreCall, Unread> {
 }
 
 // A call of the card.
-fn card_call(name: &str, words: &mut Words<'_>) -> Result<CardCall, Unread>
-    ensures { IfOk result SmallCall }
-{
+fn card_call(name: &str, words: &mut Words<'_>) -> Result<CardCall, Unread> {
     match name {
         "load" => Ok(CardCall::Load(words.setting()?)),
-        "clock" => clock(1, words),
+        "clock" => clock(UpTo { number: 1 }, words),
         "clocks" => {
-            let times = words.number(MOST_CLOCKS)?;
+            let times = words.up_to::<MOST_CLOCKS>()?;
             clock(times, words)
         }
         "ask" => Ok(CardCall::Ask),
-        "fetch" => Ok(CardCall::Fetch(words.number(LONGEST_BUFFER)? as usize)),
+        "fetch" => Ok(CardCall::Fetch(words.up_to::<LONGEST_BUFFER>()?)),
         "giveback" => Ok(CardCall::GiveBack),
         "level" => Ok(CardCall::Level(words.index()?)),
         "reset" => Ok(CardCall::Reset),
@@ -262,18 +247,13 @@ fn card_call(name: &str, words: &mut Words<'_>) -> Result<CardCall, Unread>
 }
 
 // The same Clock so many times.
-fn clock(times: u32, words: &mut Words<'_>) -> Result<CardCall, Unread>
-    requires { times ≤ 100000 }
-    ensures { IfOk result SmallCall }
-{
+fn clock(times: UpTo<MOST_CLOCKS>, words: &mut Words<'_>) -> Result<CardCall, Unread> {
     let samples = words.shorts()?;
     Ok(CardCall::Clock { times, samples })
 }
 
 // The command of a line whose first word is `name`, and no word more than it takes.
-fn whole_command(heap: Global, name: &[u8], rest: &[u8]) -> Result<Command, Unread>
-    ensures { IfOk result KeepsLimits }
-{
+fn whole_command(heap: Global, name: &[u8], rest: &[u8]) -> Result<Command, Unread> {
     let name = str::from_utf8(name).map_err(|_| Unread::BadLine)?;
     let mut words = Words { left: rest };
     let command = command(heap, name, &mut words)?;
@@ -282,8 +262,11 @@ fn whole_command(heap: Global, name: &[u8], rest: &[u8]) -> Result<Command, Unre
 }
 
 // What a line asks for; nothing where it has no word or is a comment.
+#[tactic(auto, using(crate::proofs::Kept::keeps_limits))]
 pub fn parse_line(heap: Global, line: &[u8]) -> Result<Option<Command>, Unread>
-    ensures { MatchResult result (λ o. Options.MatchOption o (Silent line.now) (λ c. Speaks line.now × KeepsLimits c)) (λ _. Speaks line.now) }
+    ensures asked { IfOk result (Asks line.now) }
+    ensures unread { OnErr result (Speaks line.now) }
+    ensures limits { IfOk result (λ o. IfSome o KeepsLimits) }
 {
     let Some((name, rest)) = first_word(line) else {
         return Ok(None);

@@ -19,8 +19,14 @@ impl<B: LentStore + Drop, W: LentStore + Drop> HeldStore<B, W> {
     // A new store, of a ring's capacity.
     pub(crate) fn new(heap: Global, memory: Memory) -> Result<HeldStore<B, W>, AllocError> {
         match memory {
-            Memory::Bytes(size) => Ok(HeldStore::Bytes(B::over(B::memory(heap, size)?))),
-            Memory::Words(size) => Ok(HeldStore::Words(W::over(W::memory(heap, size)?))),
+            Memory::Bytes(size) => {
+                let lent = B::memory(heap, size.number as usize)?;
+                Ok(HeldStore::Bytes(B::over(lent)))
+            }
+            Memory::Words(size) => {
+                let lent = W::memory(heap, size.number as usize)?;
+                Ok(HeldStore::Words(W::over(lent)))
+            }
         }
     }
 

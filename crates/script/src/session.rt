@@ -78,7 +78,7 @@ impl<B: LentStore + Drop, W: LentStore + Drop> Session<B, W> {
                 chip,
                 setting,
                 values,
-            } => print_estimate(answers, &self.rule, chip, setting, values.as_slice()),
+            } => print_estimate(answers, &self.rule, chip, setting, values.list.as_slice()),
             Command::Unpack(bytes) => self.unpack(answers, bytes),
             Command::UnpackLast => match self.cards.last_fetched() {
                 Some(bytes) => {
