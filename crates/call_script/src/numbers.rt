@@ -1,24 +1,48 @@
 // What a word says as a number.
-ghost use Rattle.std.specs.Prelude.{◌≡◌, ℕ, ◌<◌, length, IfSome, IfOk, vec_items};
+ghost use Rattle.std.specs.Prelude.{◌≡◌, ◌<◌, ◌≤◌, IfSome, IfOk, vec_items};
 ghost use Rattle.std.specs.Option.{option_map};
-ghost use Rattle.call_script.specs.Numbers.{decimal_digit, hex_digit, number_in, setting_in, byte_in, bytes_in};
+ghost use Rattle.call_script.specs.Numbers.{digit_in, hex_digit, written, up_to, number_in, setting_in, byte_in, bytes_in};
 
 use std::alloc::{AllocError, Global};
 
 // The most digits of a setting word.
 const SETTING_DIGITS: usize = 8;
 
-fn decimal_digit(byte: u8) -> Option<u32>
-    ensures { result ≡ decimal_digit byte }
+// A digit of a base.
+fn digit(byte: u8, base: u32) -> Option<u32>
+    requires low { 2 ≤ base }
+    requires high { base ≤ 36 }
+    ensures value { result ≡ digit_in base byte }
+    ensures bound { IfSome result (λ d. d < base) }
 {
-    char::from(byte).to_digit(10)
+    char::from(byte).to_digit(base)
 }
 
+// A hexadecimal digit.
+#[tactic(auto, using(crate::proofs::Written::hex_same))]
 fn hex_digit(byte: u8) -> Option<u32>
     ensures value { result ≡ hex_digit byte }
     ensures bound { IfSome result (λ d. d < 16) }
 {
-    char::from(byte).to_digit(16)
+    digit(byte, 16)
+}
+
+// The number that digits of a base write, up to a limit.
+fn read_digits(word: &[u8], base: u32, limit: u32) -> Option<u32>
+    requires low { 2 ≤ base }
+    requires high { base ≤ 36 }
+    ensures { result ≡ up_to limit (written (digit_in base) base 0 word.now) }
+{
+    let mut number: u32 = 0;
+    for byte in word {
+        let digit = digit(*byte, base)?;
+        let longer = u64::from(base) * u64::from(number) + u64::from(digit);
+        if longer > u64::from(limit) {
+            return None;
+        }
+        number = longer as u32;
+    }
+    Some(number)
 }
 
 // A number: one or more decimal digits and nothing else, up to a limit.
@@ -28,16 +52,7 @@ pub fn read_number(word: &[u8], limit: u32) -> Option<u32>
     if word.is_empty() {
         return None;
     }
-    let mut number: u32 = 0;
-    for byte in word {
-        let digit = decimal_digit(*byte)?;
-        let longer = 10 * u64::from(number) + u64::from(digit);
-        if longer > u64::from(limit) {
-            return None;
-        }
-        number = longer as u32;
-    }
-    Some(number)
+    read_digits(word, 10, limit)
 }
 
 // A setting word: one to eight hexadecimal digits, in either case.
@@ -47,12 +62,7 @@ pub fn read_setting(word: &[u8]) -> Option<u32>
     if word.is_empty() || word.len() > SETTING_DIGITS {
         return None;
     }
-    let mut setting: u32 = 0;
-    for byte in word {
-        let digit = hex_digit(*byte)?;
-        setting = 16 * setting + digit;
-    }
-    Some(setting)
+    read_digits(word, 16, u32::MAX)
 }
 
 // A byte: two hexadecimal digits, in either case.

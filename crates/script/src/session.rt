@@ -5,7 +5,7 @@ use crate::estimates::print_estimate;
 use crate::events::{answer_question, no_event, print_unpacked};
 use crate::failure::Failure;
 use crate::held_store::HeldStore;
-use call_script::{Command, Memory, Unread, first_line, parse_line};
+use call_script::{Command, Lines, Memory, Unread, parse_line};
 use chosen::{ChosenRule, LentStore};
 use std::alloc::Global;
 use std::io::Write;
@@ -102,12 +102,8 @@ pub(crate) fn answer_script<B: LentStore + Drop, W: LentStore + Drop, O: Write>(
     out: &mut O,
 ) -> Result<(), Failure> {
     let mut session = Session::<B, W>::new(heap);
-    let mut left = script;
-    let mut number = 0usize;
-    while let Some((line, rest)) = first_line(left) {
-        left = rest;
-        number = number.saturating_add(1);
-        let mut answers = Answers::new(out, number);
+    for (index, line) in Lines::of(script).enumerate() {
+        let mut answers = Answers::new(out, index.saturating_add(1));
         match parse_line(heap, line) {
             Ok(Some(command)) => session.answer(&mut answers, command)?,
             Ok(None) => {}
