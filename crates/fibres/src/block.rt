@@ -90,9 +90,16 @@ fn read_enable(text: &str) -> Result<Enable, Misread> {
 }
 
 fn read_flag(text: &str) -> Result<bool, Misread> {
-    match text {
-        "0" => Ok(false),
-        "1" => Ok(true),
+    match text.as_bytes() {
+        [digit] => flag_of(*digit),
+        _ => Err(Misread),
+    }
+}
+
+fn flag_of(digit: u8) -> Result<bool, Misread> {
+    match digit {
+        b'0' => Ok(false),
+        b'1' => Ok(true),
         _ => Err(Misread),
     }
 }
@@ -110,11 +117,7 @@ fn read_flags(text: &str, flags: &mut [bool; STRIPS]) -> Result<(), Misread> {
         return Err(Misread);
     }
     for (flag, digit) in flags.iter_mut().zip(text.bytes()) {
-        *flag = match digit {
-            b'0' => false,
-            b'1' => true,
-            _ => return Err(Misread),
-        };
+        *flag = flag_of(digit)?;
     }
     Ok(())
 }

@@ -2,7 +2,7 @@
 use crate::answers::Answers;
 use crate::failure::Failure;
 use call_script::EventQuestion;
-use faults::Layer;
+use faults::{EventFault, Layer};
 use hex_text::Hex;
 use reader::{Cluster, Event, Record, read_event};
 use std::fmt;
@@ -33,27 +33,20 @@ impl fmt::Display for Content<'_, '_> {
     }
 }
 
-// Reads bytes as an event and prints it or its fault; answers whether it is one.
-pub(crate) fn print_unpacked<O: Write>(
+pub(crate) fn print_fault<O: Write>(
     answers: &mut Answers<'_, O>,
-    bytes: &[u8],
-) -> Result<bool, Failure> {
-    match read_event(bytes) {
-        Ok(event) => {
-            print_event(answers, &event)?;
-            Ok(true)
-        }
-        Err(fault) => {
-            let number = fault.number();
-            let layer = layer_name(fault.layer());
-            let offset = fault.offset();
-            answers.print(format_args!("fault {number} {layer} {offset}"))?;
-            Ok(false)
-        }
-    }
+    fault: EventFault,
+) -> Result<(), Failure> {
+    let number = fault.number();
+    let layer = layer_name(fault.layer());
+    let offset = fault.offset();
+    answers.print(format_args!("fault {number} {layer} {offset}"))
 }
 
-fn print_event<O: Write>(answers: &mut Answers<'_, O>, event: &Event<'_>) -> Result<(), Failure> {
+pub(crate) fn print_event<O: Write>(
+    answers: &mut Answers<'_, O>,
+    event: &Event<'_>,
+) -> Result<(), Failure> {
     let size = event.size();
     answers.print(format_args!("event {size}"))?;
     for fibre in 0..FIBRES {

@@ -2,11 +2,12 @@
 use crate::answers::Answers;
 use crate::cards::Cards;
 use crate::estimates::print_estimate;
-use crate::events::{answer_question, no_event, print_unpacked};
+use crate::events::{answer_question, no_event, print_event, print_fault};
 use crate::failure::Failure;
 use crate::held_store::HeldStore;
 use call_script::{Command, Lines, Memory, Unread, parse_line};
 use chosen::{ChosenRule, LentStore};
+use reader::read_event;
 use std::alloc::Global;
 use std::io::Write;
 
@@ -49,9 +50,11 @@ impl<B: LentStore + Drop, W: LentStore + Drop> Session<B, W> {
         answers: &mut Answers<'_, O>,
         bytes: Vec<u8>,
     ) -> Result<(), Failure> {
-        if print_unpacked(answers, bytes.as_slice())? {
-            self.event = Some(bytes);
+        match read_event(bytes.as_slice()) {
+            Ok(event) => print_event(answers, &event)?,
+            Err(fault) => return print_fault(answers, fault),
         }
+        self.event = Some(bytes);
         Ok(())
     }
 
