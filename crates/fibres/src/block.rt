@@ -79,6 +79,7 @@ fn read_rule(text: &str) -> Result<ChosenRule, Misread> {
     }
 }
 
+// By its text, since a number that is parsed may have a sign or zeros in front.
 fn read_enable(text: &str) -> Result<Enable, Misread> {
     match text {
         "0" => Ok(Enable::Neither),

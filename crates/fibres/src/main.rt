@@ -12,7 +12,7 @@ use records::print_records;
 use std::io;
 use std::io::{BufWriter, Write};
 
-// An empty line ends a block.
+// An empty line ends a block, so the number of a block is counted by hand: it is no index of the lines.
 fn main(rt: HostRuntime) -> io::Result<()> {
     let text = io::read_to_string(rt.alloc(), rt.stdin())?;
     let mut out = BufWriter::new(rt.alloc(), rt.stdout())?;

@@ -2,7 +2,8 @@
 use crate::misread::Misread;
 use std::str::FromStr;
 
-// A number for each place of a row, and neither more nor fewer.
+// A number for each place of a row, and neither more nor fewer. The row is written in place, since a row that is
+// refused keeps the numbers in front of the fault.
 pub(crate) fn read_row<T: FromStr>(text: &str, row: &mut [T]) -> Result<(), Misread>
 where
     T: Drop,

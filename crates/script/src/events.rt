@@ -49,6 +49,7 @@ pub(crate) fn print_event<O: Write>(
 ) -> Result<(), Failure> {
     let size = event.size();
     answers.print(format_args!("event {size}"))?;
+    // By number, since the number is printed.
     for fibre in 0..FIBRES {
         if let Ok(record) = event.record(fibre) {
             print_record(answers, fibre, &record)?;
@@ -66,6 +67,7 @@ fn print_record<O: Write>(
     let code = record.kind().code();
     let content = Content(record);
     answers.print(format_args!("fibre {fibre} {code:02X}{content}"))?;
+    // By number, as the record is asked for its clusters.
     for index in 0..record.cluster_count().unwrap_or(0) {
         if let Ok(cluster) = record.cluster(index) {
             print_cluster(answers, cluster)?;
