@@ -39,6 +39,9 @@ too_large limit base digit (b ∷ bs) n some lt =
 pub small : (limit n : ℕ) → n ≤ limit → up_to limit (Some n) ≡ Some n
 small limit n le = ap (λ b. cond b (Some n) None) (le-leb n limit le)
 
+-- what a reading of digits takes at each digit and at its end
+pub ruleset one_digit = (written_more, written_none, written_all, small)
+
 -- where two readings of a digit agree, so do the numbers that they write
 pub written_same : (one other : ℕ → Option ℕ) (base n : ℕ) (bs : List ℕ) → ((b : ℕ) → one b ≡ other b) → written one base n bs ≡ written other base n bs
 written_same one other base n [] same = refl

@@ -27,7 +27,8 @@ fn hex_digit(byte: u8) -> Option<u32>
     digit(byte, 16)
 }
 
-// The number that digits of a base write, up to a limit.
+// The number that digits of a base write, up to a limit. Digits alone: `parse` also takes a sign in front.
+#[tactic(auto, using(crate::proofs::Written::one_digit))]
 fn read_digits(word: &[u8], base: u32, limit: u32) -> Option<u32>
     requires low { 2 ≤ base }
     requires high { base ≤ 36 }
@@ -46,6 +47,7 @@ fn read_digits(word: &[u8], base: u32, limit: u32) -> Option<u32>
 }
 
 // A number: one or more decimal digits and nothing else, up to a limit.
+#[tactic(auto, using(crate::proofs::Written::number_is))]
 pub fn read_number(word: &[u8], limit: u32) -> Option<u32>
     ensures { result ≡ number_in limit word.now }
 {
@@ -56,6 +58,7 @@ pub fn read_number(word: &[u8], limit: u32) -> Option<u32>
 }
 
 // A setting word: one to eight hexadecimal digits, in either case.
+#[tactic(auto, using(crate::proofs::Written::setting_is))]
 pub fn read_setting(word: &[u8]) -> Option<u32>
     ensures { result ≡ setting_in word.now }
 {
