@@ -1,3 +1,2 @@
-pub mod Breaks
-pub mod Splits
+pub mod Kept
 pub mod Written

@@ -1,6 +1,6 @@
 -- The lines of a script.
 -- Assumes nothing.
-use Rattle.std.specs.Prelude.{◌≡◌, ℕ, ◌+◌, ◌-◌, ◌<◌, cond, ◌⊎◌, List, [], length, take, drop, ◌==◌, ◌≢◌, slice_index, slice_index_or}
+use Rattle.std.specs.Prelude.{◌≡◌, ℕ, ◌+◌, ◌-◌, ◌<◌, cond, ◌⊎◌, List, [], Option, None, Some, length, take, drop, ◌==◌, ◌≢◌, slice_index, slice_index_or}
 
 -- a line without the carriage return at its end, if it has one
 abbrev pub without_return : List ℕ → List ℕ
@@ -24,3 +24,8 @@ pub record Open (script line rest : List ℕ) (n : ℕ) : Type 0 where
 abbrev pub FirstLine : List ℕ → List ℕ → List ℕ → Type 0
 FirstLine script line rest =
     (n : ℕ) × ((k : ℕ) → k < n → slice_index script k ≢ 10) × (Ended script line rest n ⊎ Open script line rest n)
+
+-- the next of a script's lines is its first line; there is none where nothing is left, and then nothing changes
+abbrev pub NextLine : List ℕ → Option (List ℕ) → List ℕ → Type 0
+NextLine left None after = (length left ≡ 0) × (after ≡ left)
+NextLine left (Some line) after = FirstLine left line after

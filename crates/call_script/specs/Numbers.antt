@@ -1,6 +1,7 @@
 -- What a word of a call script says as a number: decimal numbers, setting words and bytes.
 -- Assumes nothing.
-use Rattle.std.specs.Prelude.{ℕ, ◌+◌, ◌-◌, ◌*◌, Bool, cond, ◌&&◌, List, [], ◌∷◌, length, Some, None, Option, nat_le}
+use Rattle.std.specs.Prelude.{ℕ, ◌+◌, ◌-◌, ◌*◌, Bool, cond, ◌&&◌, List, [], ◌∷◌, length, Some, None, Option, nat_le, nat_lt}
+use Rattle.std.specs.Char.{digit_value}
 
 -- what comes of a value, if there is one
 abbrev pub and_then : {A B : Type 0} → Option A → (A → Option B) → Option B
@@ -24,6 +25,10 @@ abbrev pub hex_digit : ℕ → Option ℕ
 hex_digit b =
     cond (between 48 57 b) (Some (b - 48))
     (cond (between 65 70 b) (Some (b - 55)) (asked (between 97 102 b) (Some (b - 87))))
+
+-- the digits of a base up to 36: 0 to 9, then the letters in either case
+abbrev pub digit_in : ℕ → ℕ → Option ℕ
+digit_in base b = asked (nat_lt (digit_value b) base) (Some (digit_value b))
 
 -- the number that digits write, highest first, behind the number n that the digits before them wrote; none where
 -- a character is no digit

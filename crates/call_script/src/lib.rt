@@ -2,14 +2,15 @@
 #![tactic(auto)]
 
 pub mod command;
+pub mod limits;
 pub mod lines;
-mod names;
 pub mod numbers;
 pub mod parse;
 pub mod words;
 
-pub use command::{CardCall, Command, EventQuestion, Memory, RuleName};
-pub use lines::first_line;
+pub use command::{CardCall, Command, EventQuestion, Memory};
+pub use limits::{UpTo, Values};
+pub use lines::{Lines, first_line};
 pub use numbers::{read_byte, read_bytes, read_number, read_setting};
 pub use parse::{Unread, parse_line};
 pub use words::first_word;

@@ -1,13 +1,18 @@
 // Reads a line of a call script.
-ghost use Rattle.std.specs.Prelude.{◌≤◌, IfOk, vec_len, MatchResult};
-ghost use Rattle.std.specs.Option as Options;
-ghost use Rattle.call_script.specs.Commands.{SmallMemory, SmallCall, KeepsLimits, Silent, Speaks};
+ghost use Rattle.std.specs.Prelude.{◌≤◌, length, IfOk, IfSome, OnErr};
+ghost use Rattle.std.specs.Iterator.{at_most};
+ghost use Rattle.call_script.specs.Commands.{KeepsLimits, Asks, Speaks};
 
-use crate::command::{CardCall, Command, EventQuestion, Memory, RuleName};
-use crate::names::{CardName, Name, StoreName, name_of};
+use crate::command::{
+    CardCall, Command, EventQuestion, LONGEST_BUFFER, MOST_CLOCKS, MOST_MEMORY, Memory,
+};
+use crate::limits::{UpTo, Values};
 use crate::numbers::{read_byte, read_bytes, read_number, read_setting};
 use crate::words::first_word;
+use chosen::ChosenRule;
+use rules::Fixed;
 use std::alloc::{AllocError, AllocFailed, Global};
+use std::str;
 use stores::StoreCall;
 
 // The largest number.
@@ -16,12 +21,6 @@ const LARGEST: u32 = 4_294_967_295;
 const LARGEST_SHORT: u32 = 65_535;
 // The largest rank setting.
 const LARGEST_SETTING: u32 = 255;
-// The most bytes or words of a store.
-const MOST_MEMORY: u32 = 1_000_000;
-// The most Clocks of a line.
-const MOST_CLOCKS: u32 = 100_000;
-// The longest buffer of a Fetch.
-const LONGEST_BUFFER: u32 = 100_000;
 // The most values of an estimate.
 const MOST_VALUES: usize = 1000;
 // The most digits of an event.
@@ -48,25 +47,37 @@ impl<T: Drop> From<AllocFailed<T>> for Unread {
     }
 }
 
+// A number of sixteen bits.
+fn read_short(word: &[u8]) -> Option<u16> {
+    Some(read_number(word, LARGEST_SHORT)? as u16)
+}
+
 // The words of a line that are still to be read.
 #[derive(Drop)]
 struct Words<'a> {
     left: &'a [u8],
 }
 
-impl<'a> Words<'a> {
-    // The next word; none behind the last.
+impl<'a> Iterator for Words<'a> {
+    type Item = &'a [u8];
+
+    ghost remaining = { λ words. at_most (length words.left.now) };
+
     fn next(&mut self) -> Option<&'a [u8]> {
         let (word, rest) = first_word(self.left)?;
         self.left = rest;
         Some(word)
     }
+}
 
+impl<'a> Words<'a> {
     fn word(&mut self) -> Result<&'a [u8], Unread> {
-        match self.next() {
-            Some(word) => Ok(word),
-            None => Err(Unread::BadLine),
-        }
+        self.next().ok_or(Unread::BadLine)
+    }
+
+    // A word that is a name of something.
+    fn name(&mut self) -> Result<&'a str, Unread> {
+        str::from_utf8(self.word()?).map_err(|_| Unread::BadLine)
     }
 
     // No word is left.
@@ -81,10 +92,12 @@ impl<'a> Words<'a> {
     fn number(&mut self, limit: u32) -> Result<u32, Unread>
         ensures { IfOk result (λ n. n ≤ limit) }
     {
-        match read_number(self.word()?, limit) {
-            Some(number) => Ok(number),
-            None => Err(Unread::BadLine),
-        }
+        read_number(self.word()?, limit).ok_or(Unread::BadLine)
+    }
+
+    fn up_to<const MOST: u32>(&mut self) -> Result<UpTo<MOST>, Unread> {
+        let number = self.number(MOST)?;
+        Ok(UpTo { number })
     }
 
     // A number as an index.
@@ -93,165 +106,155 @@ impl<'a> Words<'a> {
     }
 
     fn setting(&mut self) -> Result<u32, Unread> {
-        match read_setting(self.word()?) {
-            Some(setting) => Ok(setting),
-            None => Err(Unread::BadLine),
-        }
+        read_setting(self.word()?).ok_or(Unread::BadLine)
     }
 
     fn byte(&mut self) -> Result<u8, Unread> {
-        match read_byte(self.word()?) {
-            Some(byte) => Ok(byte),
-            None => Err(Unread::BadLine),
-        }
+        read_byte(self.word()?).ok_or(Unread::BadLine)
     }
 
     // Twelve or twenty-four numbers of sixteen bits.
     fn shorts<const N: usize>(&mut self) -> Result<[u16; N], Unread> {
         let mut numbers = [0; N];
         for number in numbers.iter_mut() {
-            *number = self.number(LARGEST_SHORT)? as u16;
+            *number = read_short(self.word()?).ok_or(Unread::BadLine)?;
         }
         Ok(numbers)
     }
 
-    fn memory(&mut self) -> Result<Memory, Unread>
-        ensures { IfOk result SmallMemory }
-    {
-        let kind = self.word()?;
-        let size = self.number(MOST_MEMORY)? as usize;
-        if kind == b"bytes".as_slice() {
-            Ok(Memory::Bytes(size))
-        } else if kind == b"words".as_slice() {
-            Ok(Memory::Words(size))
-        } else {
-            Err(Unread::BadLine)
+    fn memory(&mut self) -> Result<Memory, Unread> {
+        let kind = self.name()?;
+        let size = self.up_to::<MOST_MEMORY>()?;
+        match kind {
+            "bytes" => Ok(Memory::Bytes(size)),
+            "words" => Ok(Memory::Words(size)),
+            _ => Err(Unread::BadLine),
         }
     }
 
-    fn rule(&mut self) -> Result<RuleName, Unread> {
-        let name = self.word()?;
-        if name == b"rank".as_slice() {
-            Ok(RuleName::Rank)
-        } else if name == b"mean".as_slice() {
-            Ok(RuleName::Mean)
-        } else if name == b"fixed".as_slice() {
-            Ok(RuleName::Fixed(self.shorts()?))
-        } else {
-            Err(Unread::BadLine)
+    fn rule(&mut self) -> Result<ChosenRule, Unread> {
+        match self.name()? {
+            "rank" => Ok(ChosenRule::Rank),
+            "mean" => Ok(ChosenRule::Mean),
+            "fixed" => {
+                let numbers = self.shorts()?;
+                Ok(ChosenRule::Fixed(Fixed { numbers }))
+            }
+            _ => Err(Unread::BadLine),
         }
     }
 
     // Values up to the end of the line, or as many as an estimate takes.
-    fn values(&mut self, heap: Global) -> Result<Vec<u16>, Unread>
-        ensures { IfOk result (λ v. vec_len v ≤ 1000) }
-    {
-        let mut values = Vec::new(heap);
-        for _taken in 0..MOST_VALUES {
-            let Some(word) = self.next() else {
-                break;
-            };
-            match read_number(word, LARGEST_SHORT) {
-                Some(value) => values.push(value as u16)?,
-                None => return Err(Unread::BadLine),
-            }
+    fn values(&mut self, heap: Global) -> Result<Values, Unread> {
+        let mut list = Vec::new(heap);
+        for word in self.take(MOST_VALUES) {
+            list.push(read_short(word).ok_or(Unread::BadLine)?)?;
         }
-        Ok(values)
+        Ok(Values { list })
     }
 }
 
-// A call of the card.
-fn card_call(name: CardName, words: &mut Words<'_>) -> Result<CardCall, Unread>
-    ensures { IfOk result SmallCall }
-{
-    match name {
-        CardName::Load => Ok(CardCall::Load(words.setting()?)),
-        CardName::Clock => Ok(CardCall::Clock(1, words.shorts()?)),
-        CardName::Clocks => {
-            let times = words.number(MOST_CLOCKS)?;
-            Ok(CardCall::Clock(times, words.shorts()?))
-        }
-        CardName::Ask => Ok(CardCall::Ask),
-        CardName::Fetch => Ok(CardCall::Fetch(words.number(LONGEST_BUFFER)? as usize)),
-        CardName::GiveBack => Ok(CardCall::GiveBack),
-        CardName::Level => Ok(CardCall::Level(words.index()?)),
-        CardName::Reset => Ok(CardCall::Reset),
-    }
-}
-
-// A call of the store.
-fn store_call(name: StoreName, words: &mut Words<'_>) -> Result<StoreCall, Unread> {
-    match name {
-        StoreName::Put => {
-            let fibre = words.index()?;
-            Ok(StoreCall::Put(fibre, words.byte()?))
-        }
-        StoreName::Take => Ok(StoreCall::Take(words.index()?)),
-        StoreName::Count => Ok(StoreCall::Level(words.index()?)),
-        StoreName::Capacity => Ok(StoreCall::Capacity),
-        StoreName::Clear => Ok(StoreCall::Clear),
-    }
-}
-
-// The bytes of an event, or the word that stands for those that were fetched last.
-fn unpack(heap: Global, word: &[u8]) -> Result<Command, Unread>
-    ensures { IfOk result KeepsLimits }
-{
-    if word == b"last".as_slice() {
-        return Ok(Command::UnpackLast);
-    }
-    if word == b"-".as_slice() {
-        return Ok(Command::Unpack(Vec::new(heap)));
-    }
-    if word.len() > MOST_DIGITS {
-        return Err(Unread::BadLine);
-    }
-    match read_bytes(heap, word)? {
-        Some(bytes) => Ok(Command::Unpack(bytes)),
-        None => Err(Unread::BadLine),
-    }
+// A new card, with a store and a rule of its own.
+fn card(words: &mut Words<'_>) -> Result<Command, Unread> {
+    let memory = words.memory()?;
+    Ok(Command::Card(memory, words.rule()?))
 }
 
 // An estimate, with the values up to the end of the line.
-fn estimate(heap: Global, words: &mut Words<'_>) -> Result<Command, Unread>
-    ensures { IfOk result KeepsLimits }
-{
+fn estimate(heap: Global, words: &mut Words<'_>) -> Result<Command, Unread> {
     let chip = words.index()?;
     let setting = words.number(LARGEST_SETTING)? as u8;
-    Ok(Command::Estimate(chip, setting, words.values(heap)?))
+    let values = words.values(heap)?;
+    Ok(Command::Estimate {
+        chip,
+        setting,
+        values,
+    })
 }
 
-// The command of a name, with the words behind it that it takes.
-fn command(heap: Global, name: Name, words: &mut Words<'_>) -> Result<Command, Unread>
-    ensures { IfOk result KeepsLimits }
-{
-    match name {
-        Name::Card => {
-            let memory = words.memory()?;
-            Ok(Command::Card(memory, words.rule()?))
-        }
-        Name::Swap => Ok(Command::Swap),
-        Name::OfCard(name) => Ok(Command::OfCard(card_call(name, words)?)),
-        Name::Store => Ok(Command::Store(words.memory()?)),
-        Name::OfStore(name) => Ok(Command::OfStore(store_call(name, words)?)),
-        Name::Rule => Ok(Command::Rule(words.rule()?)),
-        Name::Estimate => estimate(heap, words),
-        Name::Unpack => unpack(heap, words.word()?),
-        Name::Record => Ok(Command::OfEvent(EventQuestion::Record(words.index()?))),
-        Name::Cluster => {
-            let fibre = words.index()?;
-            Ok(Command::OfEvent(EventQuestion::Cluster(fibre, words.index()?)))
+// The bytes of an event, or the word that stands for those that were fetched last.
+fn unpack(heap: Global, word: &str) -> Result<Command, Unread> {
+    match word {
+        "last" => Ok(Command::UnpackLast),
+        "-" => Ok(Command::Unpack(Vec::new(heap))),
+        digits => {
+            if digits.len() > MOST_DIGITS {
+                return Err(Unread::BadLine);
+            }
+            let bytes = read_bytes(heap, digits.as_bytes())?.ok_or(Unread::BadLine)?;
+            Ok(Command::Unpack(bytes))
         }
     }
 }
 
+// The cluster of an index in the record of a fibre.
+fn cluster(words: &mut Words<'_>) -> Result<EventQuestion, Unread> {
+    let fibre = words.index()?;
+    let index = words.index()?;
+    Ok(EventQuestion::Cluster { fibre, index })
+}
+
+// The command of a name, with the words behind it that it takes.
+fn command(heap: Global, name: &str, words: &mut Words<'_>) -> Result<Command, Unread> {
+    match name {
+        "card" => card(words),
+        "swap" => Ok(Command::Swap),
+        "store" => Ok(Command::Store(words.memory()?)),
+        "rule" => Ok(Command::Rule(words.rule()?)),
+        "estimate" => estimate(heap, words),
+        "unpack" => unpack(heap, words.name()?),
+        "record" => Ok(Command::OfEvent(EventQuestion::Record(words.index()?))),
+        "cluster" => Ok(Command::OfEvent(cluster(words)?)),
+        _ => call(name, words),
+    }
+}
+
+// A call of the store or of the card.
+fn call(name: &str, words: &mut Words<'_>) -> Result<Command, Unread> {
+    match name {
+        "put" => Ok(Command::OfStore(put(words)?)),
+        "take" => Ok(Command::OfStore(StoreCall::Take(words.index()?))),
+        "count" => Ok(Command::OfStore(StoreCall::Level(words.index()?))),
+        "capacity" => Ok(Command::OfStore(StoreCall::Capacity)),
+        "clear" => Ok(Command::OfStore(StoreCall::Clear)),
+        _ => Ok(Command::OfCard(card_call(name, words)?)),
+    }
+}
+
+// A byte put on a fibre.
+fn put(words: &mut Words<'_>) -> Result<StoreCall, Unread> {
+    let fibre = words.index()?;
+    let byte = words.byte()?;
+    Ok(StoreCall::Put(fibre, byte))
+}
+
+// A call of the card.
+fn card_call(name: &str, words: &mut Words<'_>) -> Result<CardCall, Unread> {
+    match name {
+        "load" => Ok(CardCall::Load(words.setting()?)),
+        "clock" => clock(UpTo { number: 1 }, words),
+        "clocks" => {
+            let times = words.up_to::<MOST_CLOCKS>()?;
+            clock(times, words)
+        }
+        "ask" => Ok(CardCall::Ask),
+        "fetch" => Ok(CardCall::Fetch(words.up_to::<LONGEST_BUFFER>()?)),
+        "giveback" => Ok(CardCall::GiveBack),
+        "level" => Ok(CardCall::Level(words.index()?)),
+        "reset" => Ok(CardCall::Reset),
+        _ => Err(Unread::BadLine),
+    }
+}
+
+// The same Clock so many times.
+fn clock(times: UpTo<MOST_CLOCKS>, words: &mut Words<'_>) -> Result<CardCall, Unread> {
+    let samples = words.shorts()?;
+    Ok(CardCall::Clock { times, samples })
+}
+
 // The command of a line whose first word is `name`, and no word more than it takes.
-fn whole_command(heap: Global, name: &[u8], rest: &[u8]) -> Result<Command, Unread>
-    ensures { IfOk result KeepsLimits }
-{
-    let Some(name) = name_of(name) else {
-        return Err(Unread::BadLine);
-    };
+fn whole_command(heap: Global, name: &[u8], rest: &[u8]) -> Result<Command, Unread> {
+    let name = str::from_utf8(name).map_err(|_| Unread::BadLine)?;
     let mut words = Words { left: rest };
     let command = command(heap, name, &mut words)?;
     words.end()?;
@@ -259,8 +262,11 @@ fn whole_command(heap: Global, name: &[u8], rest: &[u8]) -> Result<Command, Unre
 }
 
 // What a line asks for; nothing where it has no word or is a comment.
+#[tactic(auto, using(crate::proofs::Kept::keeps_limits))]
 pub fn parse_line(heap: Global, line: &[u8]) -> Result<Option<Command>, Unread>
-    ensures { MatchResult result (λ o. Options.MatchOption o (Silent line.now) (λ c. Speaks line.now × KeepsLimits c)) (λ _. Speaks line.now) }
+    ensures asked { IfOk result (Asks line.now) }
+    ensures unread { OnErr result (Speaks line.now) }
+    ensures limits { IfOk result (λ o. IfSome o KeepsLimits) }
 {
     let Some((name, rest)) = first_word(line) else {
         return Ok(None);
@@ -268,8 +274,5 @@ pub fn parse_line(heap: Global, line: &[u8]) -> Result<Option<Command>, Unread>
     if name[0] == b'#' {
         return Ok(None);
     }
-    match whole_command(heap, name, rest) {
-        Ok(command) => Ok(Some(command)),
-        Err(unread) => Err(unread),
-    }
+    Ok(Some(whole_command(heap, name, rest)?))
 }

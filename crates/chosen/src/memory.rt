@@ -17,13 +17,18 @@ pub trait LentStore: Store {
     fn over(memory: Self::Memory) -> Self;
 }
 
+// So many zeros, kept to the end of the program.
+fn kept<'a, T: Copy + Default + 'a>(heap: Global, size: usize) -> Result<&'a mut [T], AllocError> {
+    let zeros = vec![in heap; T::default(); size]?;
+    let kept = Box::leak(Box::new(heap, zeros)?);
+    Ok(kept.as_mut_slice())
+}
+
 impl<'a> LentStore for ByteRing<'a> {
     type Memory = &'a mut [u8];
 
     fn memory(heap: Global, size: usize) -> Result<&'a mut [u8], AllocError> {
-        let bytes = vec![in heap; 0u8; size.min(MOST_BYTES)]?;
-        let kept = Box::leak(Box::new(heap, bytes)?);
-        Ok(kept.as_mut_slice())
+        kept(heap, size.min(MOST_BYTES))
     }
 
     fn over(memory: &'a mut [u8]) -> ByteRing<'a> {
@@ -35,9 +40,7 @@ impl<'a> LentStore for WordRing<'a> {
     type Memory = &'a mut [u32];
 
     fn memory(heap: Global, size: usize) -> Result<&'a mut [u32], AllocError> {
-        let words = vec![in heap; 0u32; size.min(MOST_BYTES / 4)]?;
-        let kept = Box::leak(Box::new(heap, words)?);
-        Ok(kept.as_mut_slice())
+        kept(heap, size.min(MOST_BYTES / 4))
     }
 
     fn over(memory: &'a mut [u32]) -> WordRing<'a> {

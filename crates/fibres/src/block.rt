@@ -1,22 +1,17 @@
 // What a block of lines says of one fibre.
+use crate::misread::Misread;
 use crate::numbers::read_row;
+use chosen::ChosenRule;
 use rules::Fixed;
 use settings::FibreSettings;
 use strips::Sample;
 use terms::{CHIPS, Enable, Fibre, Pair, STRIPS};
 
-// The rule by which common modes are estimated.
-#[derive(Clone, Copy)]
-pub enum Estimate {
-    Rank,
-    Mean,
-    Fixed(Fixed),
-}
-
 #[derive(Clone, Copy)]
 pub struct Block {
     pub fibre: Fibre,
-    pub rule: Estimate,
+    // The rule by which common modes are estimated.
+    pub rule: ChosenRule,
     pub settings: FibreSettings,
     pub samples: [Sample; STRIPS],
 }
@@ -24,118 +19,115 @@ pub struct Block {
 impl Block {
     // What holds before a line says otherwise.
     pub(crate) fn fresh() -> Block {
-        let fibre = match Fibre::new(0) {
-            Ok(fibre) => fibre,
-            Err(_) => unreachable(),
-        };
-        let sample = match Sample::new(0) {
-            Some(sample) => sample,
-            None => unreachable(),
-        };
         Block {
-            fibre,
-            rule: Estimate::Rank,
+            fibre: Fibre::new(0).unwrap(),
+            rule: ChosenRule::Rank,
             settings: FibreSettings::fresh(),
-            samples: [sample; STRIPS],
+            samples: [Sample::new(0).unwrap(); STRIPS],
         }
     }
 
-    // Takes a line: a name, and what the block says of it. None where it is not such a line.
-    pub(crate) fn take(&mut self, line: &str) -> Option<()> {
-        let (name, text) = line.split_once(' ')?;
+    // Takes a line: a name, and what the block says of it.
+    pub(crate) fn take(&mut self, line: &str) -> Result<(), Misread> {
+        let (name, text) = line.split_once(' ').ok_or(Misread)?;
         match name {
             "fibre" => self.fibre = read_fibre(text)?,
             "rule" => self.rule = read_rule(text)?,
             "samples" => read_samples(text, &mut self.samples)?,
-            _ => return take_setting(&mut self.settings, name, text),
+            _ => take_setting(&mut self.settings, name, text)?,
         }
-        Some(())
+        Ok(())
     }
 }
 
 // Takes what is said of the whole fibre or of its chips.
-fn take_setting(settings: &mut FibreSettings, name: &str, text: &str) -> Option<()> {
+fn take_setting(settings: &mut FibreSettings, name: &str, text: &str) -> Result<(), Misread> {
     match name {
         "enable" => settings.enable = read_enable(text)?,
         "complement" => settings.complement = read_flag(text)?,
         "ranks" => settings.ranks = read_ranks(text)?,
-        _ => return take_row(settings, name, text),
+        _ => take_row(settings, name, text)?,
     }
-    Some(())
+    Ok(())
 }
 
 // Takes what is said of each strip.
-fn take_row(settings: &mut FibreSettings, name: &str, text: &str) -> Option<()> {
+fn take_row(settings: &mut FibreSettings, name: &str, text: &str) -> Result<(), Misread> {
     match name {
         "valid" => read_flags(text, &mut settings.valid),
         "pedestals" => read_row(text, &mut settings.pedestals),
         "thresh1" => read_row(text, &mut settings.thresh1),
         "thresh2" => read_row(text, &mut settings.thresh2),
-        _ => None,
+        _ => Err(Misread),
     }
 }
 
-fn read_fibre(text: &str) -> Option<Fibre> {
-    Fibre::new(text.parse().ok()?).ok()
+fn read_fibre(text: &str) -> Result<Fibre, Misread> {
+    let index = text.parse().map_err(|_| Misread)?;
+    Fibre::new(index).map_err(|_| Misread)
 }
 
-fn read_rule(text: &str) -> Option<Estimate> {
+fn read_rule(text: &str) -> Result<ChosenRule, Misread> {
     match text {
-        "rank" => Some(Estimate::Rank),
-        "mean" => Some(Estimate::Mean),
+        "rank" => Ok(ChosenRule::Rank),
+        "mean" => Ok(ChosenRule::Mean),
         _ => {
             let mut numbers = [0; CHIPS];
-            read_row(text.strip_prefix("fixed ")?, &mut numbers)?;
-            Some(Estimate::Fixed(Fixed { numbers }))
+            read_row(text.strip_prefix("fixed ").ok_or(Misread)?, &mut numbers)?;
+            Ok(ChosenRule::Fixed(Fixed { numbers }))
         }
     }
 }
 
-fn read_enable(text: &str) -> Option<Enable> {
+// By its text, since a number that is parsed may have a sign or zeros in front.
+fn read_enable(text: &str) -> Result<Enable, Misread> {
     match text {
-        "0" => Some(Enable::Neither),
-        "1" => Some(Enable::Right),
-        "2" => Some(Enable::Left),
-        "3" => Some(Enable::Both),
-        _ => None,
+        "0" => Ok(Enable::Neither),
+        "1" => Ok(Enable::Right),
+        "2" => Ok(Enable::Left),
+        "3" => Ok(Enable::Both),
+        _ => Err(Misread),
     }
 }
 
-fn read_flag(text: &str) -> Option<bool> {
-    match text {
-        "0" => Some(false),
-        "1" => Some(true),
-        _ => None,
+fn read_flag(text: &str) -> Result<bool, Misread> {
+    match text.as_bytes() {
+        [digit] => flag_of(*digit),
+        _ => Err(Misread),
     }
 }
 
-fn read_ranks(text: &str) -> Option<Pair<u8>> {
+fn flag_of(digit: u8) -> Result<bool, Misread> {
+    match digit {
+        b'0' => Ok(false),
+        b'1' => Ok(true),
+        _ => Err(Misread),
+    }
+}
+
+fn read_ranks(text: &str) -> Result<Pair<u8>, Misread> {
     let mut ranks = [0; 2];
     read_row(text, &mut ranks)?;
     let [left, right] = ranks;
-    Some(Pair { left, right })
+    Ok(Pair { left, right })
 }
 
 // A digit for each strip.
-fn read_flags(text: &str, flags: &mut [bool; STRIPS]) -> Option<()> {
+fn read_flags(text: &str, flags: &mut [bool; STRIPS]) -> Result<(), Misread> {
     if text.len() != STRIPS {
-        return None;
+        return Err(Misread);
     }
     for (flag, digit) in flags.iter_mut().zip(text.bytes()) {
-        *flag = match digit {
-            b'0' => false,
-            b'1' => true,
-            _ => return None,
-        };
+        *flag = flag_of(digit)?;
     }
-    Some(())
+    Ok(())
 }
 
-fn read_samples(text: &str, samples: &mut [Sample; STRIPS]) -> Option<()> {
+fn read_samples(text: &str, samples: &mut [Sample; STRIPS]) -> Result<(), Misread> {
     let mut numbers = [0; STRIPS];
     read_row(text, &mut numbers)?;
     for (sample, number) in samples.iter_mut().zip(numbers) {
-        *sample = Sample::new(number)?;
+        *sample = Sample::new(number).ok_or(Misread)?;
     }
-    Some(())
+    Ok(())
 }

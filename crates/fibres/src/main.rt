@@ -3,6 +3,7 @@
 #![tactic(auto)]
 
 mod block;
+mod misread;
 mod numbers;
 mod records;
 
@@ -11,7 +12,7 @@ use records::print_records;
 use std::io;
 use std::io::{BufWriter, Write};
 
-// An empty line ends a block.
+// An empty line ends a block, so the number of a block is counted by hand: it is no index of the lines.
 fn main(rt: HostRuntime) -> io::Result<()> {
     let text = io::read_to_string(rt.alloc(), rt.stdin())?;
     let mut out = BufWriter::new(rt.alloc(), rt.stdout())?;
@@ -22,7 +23,7 @@ fn main(rt: HostRuntime) -> io::Result<()> {
             print_records(&mut out, blocks, &block)?;
             blocks = blocks.saturating_add(1);
             block = Block::fresh();
-        } else if block.take(line).is_none() {
+        } else if block.take(line).is_err() {
             writeln!(out, "block {blocks}: not understood: {line}")?;
         }
     }

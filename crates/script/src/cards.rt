@@ -1,6 +1,8 @@
 // The cards of a script: two places, the slips that were given, and the bytes that were fetched last.
+use crate::answers::Answers;
 use crate::failure::Failure;
-use call_script::{CardCall, Memory, RuleName};
+use call_script::{CardCall, Memory};
+use chosen::ChosenRule;
 use std::alloc::Global;
 use std::io::Write;
 
@@ -18,37 +20,30 @@ impl Cards {
     // Makes a new card in the current place.
     pub(crate) fn renew<O: Write>(
         &mut self,
-        _out: &mut O,
-        _line: usize,
+        _answers: &mut Answers<'_, O>,
         _heap: Global,
         _memory: Memory,
-        _rule: RuleName,
+        _rule: ChosenRule,
     ) -> Result<(), Failure> {
         Err(Failure::NoCards)
     }
 
     // Makes the other place the current one.
-    pub(crate) fn swap<O: Write>(&mut self, out: &mut O, line: usize) -> Result<(), Failure> {
-        writeln!(out, "{line} swapped")?;
-        Ok(())
+    pub(crate) fn swap<O: Write>(&mut self, answers: &mut Answers<'_, O>) -> Result<(), Failure> {
+        answers.print("swapped")
     }
 
     // Makes a call of the current card, and prints what it answered.
     pub(crate) fn answer<O: Write>(
         &mut self,
-        out: &mut O,
-        line: usize,
+        answers: &mut Answers<'_, O>,
         _call: CardCall,
     ) -> Result<(), Failure> {
-        writeln!(out, "{line} no card")?;
-        Ok(())
+        answers.print("no card")
     }
 
     // The bytes of the last Fetch that was carried out.
     pub(crate) fn last_fetched(&self) -> Option<&[u8]> {
-        match &self.fetched {
-            Some(bytes) => Some(bytes.as_slice()),
-            None => None,
-        }
+        self.fetched.as_deref()
     }
 }

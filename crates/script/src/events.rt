@@ -1,10 +1,11 @@
 // The reader by itself: what an event holds.
+use crate::answers::Answers;
 use crate::failure::Failure;
-use crate::hex::print_hex;
 use call_script::EventQuestion;
-use faults::Layer;
-use layout::Kind;
+use faults::{EventFault, Layer};
+use hex_text::Hex;
 use reader::{Cluster, Event, Record, read_event};
+use std::fmt;
 use std::io::Write;
 use terms::{FIBRES, Refusal, STRIPS};
 
@@ -16,128 +17,105 @@ fn layer_name(layer: Layer) -> &'static str {
     }
 }
 
-// Reads bytes as an event and prints it or its fault; answers whether it is one.
-pub(crate) fn print_unpacked<O: Write>(
-    out: &mut O,
-    line: usize,
-    bytes: &[u8],
-) -> Result<bool, Failure> {
-    match read_event(bytes) {
-        Ok(event) => {
-            print_event(out, line, &event)?;
-            Ok(true)
+// What stands behind the packet code of a record: its common modes, or the words of a raw record.
+#[derive(Clone, Copy)]
+struct Content<'a, 'b>(&'a Record<'b>);
+
+impl fmt::Display for Content<'_, '_> {
+    fn fmt<W: fmt::Write>(&self, f: &mut fmt::Formatter<W>) -> fmt::Result {
+        if let Some(modes) = self.0.common_modes() {
+            write!(f, " {} {}", modes.left, modes.right)?;
         }
-        Err(fault) => {
-            let number = fault.number();
-            let layer = layer_name(fault.layer());
-            let offset = fault.offset();
-            writeln!(out, "{line} fault {number} {layer} {offset}")?;
-            Ok(false)
+        for word in (0..STRIPS).filter_map(|index| self.0.word(index)) {
+            write!(f, " {word}")?;
         }
+        Ok(())
     }
 }
 
-fn print_event<O: Write>(out: &mut O, line: usize, event: &Event<'_>) -> Result<(), Failure> {
+pub(crate) fn print_fault<O: Write>(
+    answers: &mut Answers<'_, O>,
+    fault: EventFault,
+) -> Result<(), Failure> {
+    let number = fault.number();
+    let layer = layer_name(fault.layer());
+    let offset = fault.offset();
+    answers.print(format_args!("fault {number} {layer} {offset}"))
+}
+
+pub(crate) fn print_event<O: Write>(
+    answers: &mut Answers<'_, O>,
+    event: &Event<'_>,
+) -> Result<(), Failure> {
     let size = event.size();
-    writeln!(out, "{line} event {size}")?;
+    answers.print(format_args!("event {size}"))?;
+    // By number, since the number is printed.
     for fibre in 0..FIBRES {
         if let Ok(record) = event.record(fibre) {
-            print_record(out, line, fibre, &record)?;
+            print_record(answers, fibre, &record)?;
         }
     }
     Ok(())
 }
 
+// A line for the record, and one for each of its clusters.
 fn print_record<O: Write>(
-    out: &mut O,
-    line: usize,
+    answers: &mut Answers<'_, O>,
     fibre: usize,
     record: &Record<'_>,
 ) -> Result<(), Failure> {
     let code = record.kind().code();
-    write!(out, "{line} fibre {fibre} {code:02X}")?;
-    match record.kind() {
-        Kind::ZeroSuppressed => print_suppressed(out, line, record),
-        Kind::ProcessedRaw | Kind::VirginRaw => print_words(out, record),
-    }
-}
-
-// The common modes, and a line for each cluster.
-fn print_suppressed<O: Write>(
-    out: &mut O,
-    line: usize,
-    record: &Record<'_>,
-) -> Result<(), Failure> {
-    if let Some(modes) = record.common_modes() {
-        let left = modes.left;
-        let right = modes.right;
-        write!(out, " {left} {right}")?;
-    }
-    writeln!(out, "")?;
+    let content = Content(record);
+    answers.print(format_args!("fibre {fibre} {code:02X}{content}"))?;
+    // By number, as the record is asked for its clusters.
     for index in 0..record.cluster_count().unwrap_or(0) {
         if let Ok(cluster) = record.cluster(index) {
-            print_cluster(out, line, cluster)?;
+            print_cluster(answers, cluster)?;
         }
     }
     Ok(())
 }
 
-fn print_words<O: Write>(out: &mut O, record: &Record<'_>) -> Result<(), Failure> {
-    for index in 0..STRIPS {
-        if let Some(word) = record.word(index) {
-            write!(out, " {word}")?;
-        }
-    }
-    writeln!(out, "")?;
-    Ok(())
-}
-
-fn print_cluster<O: Write>(out: &mut O, line: usize, cluster: Cluster<'_>) -> Result<(), Failure> {
+fn print_cluster<O: Write>(
+    answers: &mut Answers<'_, O>,
+    cluster: Cluster<'_>,
+) -> Result<(), Failure> {
     let address = cluster.address;
     let strips = cluster.values.len();
-    write!(out, "{line} cluster {address} {strips} ")?;
-    print_hex(out, cluster.values)?;
-    writeln!(out, "")?;
-    Ok(())
+    let values = Hex(cluster.values);
+    answers.print(format_args!("cluster {address} {strips} {values}"))
 }
 
-fn print_refusal<O: Write>(out: &mut O, line: usize, refusal: Refusal) -> Result<(), Failure> {
-    let number = refusal.number();
-    writeln!(out, "{line} refused {number}")?;
-    Ok(())
+// The cluster of an index in the record of a fibre.
+fn cluster_of<'a>(event: &Event<'a>, fibre: usize, index: usize) -> Result<Cluster<'a>, Refusal> {
+    event.record(fibre)?.cluster(index)
 }
 
 // Answers a question on the bytes of an event.
 pub(crate) fn answer_question<O: Write>(
-    out: &mut O,
-    line: usize,
+    answers: &mut Answers<'_, O>,
     bytes: &[u8],
     question: EventQuestion,
 ) -> Result<(), Failure> {
     let Ok(event) = read_event(bytes) else {
-        return no_event(out, line);
+        return no_event(answers);
     };
     match question {
         EventQuestion::Record(fibre) => match event.record(fibre) {
             Ok(record) => {
                 let code = record.kind().code();
                 let size = record.size();
-                writeln!(out, "{line} record {code:02X} {size}")?;
-                Ok(())
+                answers.print(format_args!("record {code:02X} {size}"))
             }
-            Err(refusal) => print_refusal(out, line, refusal),
+            Err(refusal) => answers.refuse(refusal),
         },
-        EventQuestion::Cluster(fibre, index) => match event.record(fibre) {
-            Ok(record) => match record.cluster(index) {
-                Ok(cluster) => print_cluster(out, line, cluster),
-                Err(refusal) => print_refusal(out, line, refusal),
-            },
-            Err(refusal) => print_refusal(out, line, refusal),
+        EventQuestion::Cluster { fibre, index } => match cluster_of(&event, fibre, index) {
+            Ok(cluster) => print_cluster(answers, cluster),
+            Err(refusal) => answers.refuse(refusal),
         },
     }
 }
 
-pub(crate) fn no_event<O: Write>(out: &mut O, line: usize) -> Result<(), Failure> {
-    writeln!(out, "{line} no event")?;
-    Ok(())
+pub(crate) fn no_event<O: Write>(answers: &mut Answers<'_, O>) -> Result<(), Failure> {
+    answers.print("no event")
 }

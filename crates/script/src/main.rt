@@ -1,13 +1,12 @@
 // Answers a call script: reads it on the standard input, and prints what each call answered.
 #![tactic(auto)]
 
+mod answers;
 mod cards;
 mod estimates;
 mod events;
 mod failure;
 mod held_store;
-mod hex;
-mod memory;
 mod session;
 
 use failure::Failure;

@@ -1,11 +1,13 @@
-use Rattle.std.proofs.Common.{◌≤◌, length, vec_items, ◌∙◌, rules}
-use Rattle.std.proofs.lemmas.List.{take_rest}
-use Rattle.call_script.proofs.Written.{bytes_more}
+use Rattle.std.proofs.Common.{vec_items, ◌∙◌}
+use Rattle.std.specs.Slice.Iter.{chunks_rest}
+use Rattle.call_script.proofs.Written.{chunk_more}
 use Rattle.call_script.proofs.numbers.read_bytes.Goals as goal
 
-pub loop-left-preserved : goal.loop-left-preserved
-loop-left-preserved c =
-    let xs = c.loop-left.left.now in
-    let two : 2 ≤ length xs = search rules in
-    let more = bytes_more xs (vec_items c.loop-left.bytes) c.in-Some.byte two c.in-Some.ensures in
-    simp (take_rest, c.in_ok-push.ensures.items) (more ∙ c.loop-left.invariant)
+pub loop-digits-preserved : goal.loop-digits-preserved
+loop-digits-preserved c =
+    let steps = c.in-Some.ensures.steps in
+    let left = chunks_rest c.next.new.self in
+    let more = chunk_more c.in-Some.digits.now left (vec_items c.loop-digits.bytes) c.in-Some-read_byte.byte c.in-Some-read_byte.ensures in (
+      steps.0 ∙ c.loop-digits.invariant.0,
+      simp c.in_ok-push.ensures.items ((rw (← steps.1.0) at more) ∙ c.loop-digits.invariant.1),
+    )
