@@ -60,7 +60,8 @@ fn flat_words(settings: &FibreSettings, samples: &[Sample; STRIPS]) -> Words
     Words::new(flat_values(settings, samples).values).unwrap()
 }
 
-// The samples as they came, in place order. Filled place by place: samples.map(..) takes twice as long for the record.
+// The samples as they came, in place order. Filled place by place: samples.map(..) takes some thousands of
+// instructions more.
 fn sample_words(samples: &[Sample; STRIPS]) -> Words
     ensures { words_content result ≡ words (numbers samples.now) }
 {
