@@ -9,7 +9,7 @@ use Rattle.faults.specs.declared.fault.RecordFault.{RecordFault}
 use Rattle.reader.specs.Questions.{ask, ok_map, err_map, verdict, number_in, read_cluster, read_clusters, read_record, read_records, and_then, Walked, ends_at, with_content}
 use Rattle.reader.specs.declared.event.reading.RecordReader.{RecordReader}
 use Rattle.reader.specs.Walks.{ends, Passed}
-use Rattle.reader.proofs.Asks.{err_ok, err_same}
+use Rattle.reader.proofs.Asks.{err_ok}
 use Rattle.faults.specs.declared.fault.EventFault.TheVariants as events
 use Rattle.reader.proofs.Walk.{next_cluster, record_at, seven}
 
@@ -33,10 +33,6 @@ clusters_next b at xs c h = ap verdict (next_cluster b at xs c h).1 ∙ verdict_
 pub content_from : {E : Type 0} (r : Result Content E) → Ok tt ≡ verdict r → (c : Content) × (r ≡ Ok c)
 content_from (Ok c) h = (c, refl)
 content_from (Err e) h = absurd (err_ok e tt (sym h))
-
-verdict_fault : {A E : Type 0} (r : Result A E) (e : E) → Err e ≡ verdict r → r ≡ Err e
-verdict_fault (Ok x) e h = absurd (err_ok e tt h)
-verdict_fault (Err y) e h = ap Err (sym (err_same e y h))
 
 end_map : {E : Type 0} (c : Content) (r : Result Walked E) → ok_map ends_at (ok_map (with_content c) r) ≡ ok_map ends_at r
 end_map c (Ok w) = refl
