@@ -1,19 +1,15 @@
 -- One step of each reader: what its questions come to where they are answered yes.
 -- Assumes nothing.
-use Rattle.std.proofs.Common.{◌≡◌, ℕ, suc, ◌+◌, ◌-◌, ◌≤◌, Bool, true, false, List, [], ◌∷◌, length, get_or, take, drop, Some, None, Ok, Err, Option, Result, sym, refl, ap, ◌∙◌, ap₂, arith, length-drop}
-use Rattle.std.proofs.lemmas.Bool.{le-leb}
+use Rattle.std.proofs.Common.{◌≡◌, ℕ, suc, ◌+◌, ◌-◌, ◌≤◌, Bool, true, false, List, [], ◌∷◌, length, get_or, drop, Some, Ok, Err, Option, Result, sym, refl, ap, ◌∙◌, ap₂, arith, length-drop}
 use Rattle.layout.specs.declared.kind.Kind.{Kind}
 use Rattle.layout.specs.declared.run.Run.{Run}
 use Rattle.std.specs.Option.{option_map}
-use Rattle.layout.specs.Event.{Cluster, run_of, Content, suppressed, code}
-use Rattle.layout.specs.Places.{placed}
-use Rattle.faults.specs.declared.fault.ClusterFault.{ClusterFault}
+use Rattle.layout.specs.Event.{Cluster, run_of, Content, code}
 use Rattle.faults.specs.declared.fault.RecordFault.{RecordFault}
-use Rattle.faults.specs.declared.fault.RecordFault.TheVariants as records
-use Rattle.reader.specs.Questions.{ask, ok_map, err_map, verdict, behind, number_in, mode_in, read_cluster, read_clusters, read_suppressed, read_record, read_records, and_then, Walked, ends_at, with_content}
+use Rattle.reader.specs.Questions.{ask, ok_map, err_map, verdict, number_in, read_cluster, read_clusters, read_record, read_records, and_then, Walked, ends_at, with_content}
 use Rattle.reader.specs.declared.event.reading.RecordReader.{RecordReader}
 use Rattle.reader.specs.Walks.{ends, Passed}
-use Rattle.reader.proofs.Asks.{err_ok, err_same}
+use Rattle.reader.proofs.Asks.{err_ok}
 use Rattle.faults.specs.declared.fault.EventFault.TheVariants as events
 use Rattle.reader.proofs.Walk.{next_cluster, record_at, seven}
 
@@ -25,16 +21,6 @@ asked b e r h = rw h
 pub refused : {A E : Type 0} (b : Bool) (e : E) (r : Result A E) → b ≡ false → ask b e r ≡ Err e
 refused b e r h = rw h
 
--- the run that two header bytes name
-abbrev pub run_at : List ℕ → Run
-run_at xs = record { address = get_or xs 0 0; strips = get_or xs 1 0 }
-
-pub cluster_taken : (before : Option Run) (at : ℕ) (xs : List ℕ) → 2 ≤ length xs → placed (run_at xs) ≡ true → get_or xs 1 0 ≤ length (drop 2 xs) → behind before (run_at xs) ≡ true → read_cluster before at xs ≡ Ok (record { address = get_or xs 0 0; values = take (get_or xs 1 0) (drop 2 xs) })
-cluster_taken before at [] h p d b = absurd (omega arith)
-cluster_taken before at (a ∷ []) h p d b = absurd (omega arith)
-cluster_taken before at (a ∷ n ∷ xs) h p d b =
-    asked _ _ _ p ∙ (asked _ _ _ (le-leb n (length xs) d) ∙ asked _ _ _ b)
-
 pub verdict_map : {A B E : Type 0} (f : A → B) (r : Result A E) → verdict (ok_map f r) ≡ verdict r
 verdict_map f (Ok x) = refl
 verdict_map f (Err e) = refl
@@ -43,35 +29,10 @@ verdict_map f (Err e) = refl
 pub clusters_next : (b : Option Run) (at : ℕ) (xs : List ℕ) (c : Cluster) → read_cluster b at xs ≡ Ok c → verdict (read_clusters 0 b at xs) ≡ verdict (read_clusters 0 (Some (run_of c)) (at + (2 + length c.values)) (drop (2 + length c.values) xs))
 clusters_next b at xs c h = ap verdict (next_cluster b at xs c h).1 ∙ verdict_map _ _
 
--- both common modes have ten bits: the rest is up to the clusters
-abbrev pub clusters_left : ℕ → List ℕ → Result (List Cluster) ClusterFault
-clusters_left at xs = read_clusters 0 None (at + 4) (drop 4 xs)
-
-modes_taken : (at : ℕ) (xs : List ℕ) → mode_in 0 xs ≤ 1023 → mode_in 2 xs ≤ 1023 → read_suppressed at xs ≡ err_map records.Cluster (ok_map (suppressed (record { left = mode_in 0 xs; right = mode_in 2 xs })) (clusters_left at xs))
-modes_taken at xs l r = asked _ _ _ (le-leb (mode_in 0 xs) 1023 l) ∙ asked _ _ _ (le-leb (mode_in 2 xs) 1023 r)
-
-verdict_ok : {A B E F : Type 0} (f : A → B) (g : E → F) (r : Result A E) → Ok tt ≡ verdict r → Ok tt ≡ verdict (err_map g (ok_map f r))
-verdict_ok f g (Ok y) e = refl
-verdict_ok f g (Err y) e = absurd (err_ok y tt (sym e))
-
-verdict_err : {A B E F : Type 0} (f : A → B) (g : E → F) (r : Result A E) (y : E) → Err y ≡ verdict r → Err (g y) ≡ verdict (err_map g (ok_map f r))
-verdict_err f g (Ok x) y e = absurd (err_ok y tt e)
-verdict_err f g (Err z) y e = ap (λ w. Err (g w)) (err_same y z e)
-
-pub suppressed_ok : (at : ℕ) (xs : List ℕ) → mode_in 0 xs ≤ 1023 → mode_in 2 xs ≤ 1023 → Ok tt ≡ verdict (clusters_left at xs) → Ok tt ≡ verdict (read_suppressed at xs)
-suppressed_ok at xs l r e = verdict_ok _ _ (clusters_left at xs) e ∙ ap verdict (sym (modes_taken at xs l r))
-
-pub suppressed_err : (at : ℕ) (xs : List ℕ) (f : ClusterFault) → mode_in 0 xs ≤ 1023 → mode_in 2 xs ≤ 1023 → Err f ≡ verdict (clusters_left at xs) → Err (records.Cluster f) ≡ verdict (read_suppressed at xs)
-suppressed_err at xs f l r e = verdict_err _ _ (clusters_left at xs) f e ∙ ap verdict (sym (modes_taken at xs l r))
-
 -- a content that was read without a fault
 pub content_from : {E : Type 0} (r : Result Content E) → Ok tt ≡ verdict r → (c : Content) × (r ≡ Ok c)
 content_from (Ok c) h = (c, refl)
 content_from (Err e) h = absurd (err_ok e tt (sym h))
-
-verdict_fault : {A E : Type 0} (r : Result A E) (e : E) → Err e ≡ verdict r → r ≡ Err e
-verdict_fault (Ok x) e h = absurd (err_ok e tt h)
-verdict_fault (Err y) e h = ap Err (sym (err_same e y h))
 
 end_map : {E : Type 0} (c : Content) (r : Result Walked E) → ok_map ends_at (ok_map (with_content c) r) ≡ ok_map ends_at r
 end_map c (Ok w) = refl

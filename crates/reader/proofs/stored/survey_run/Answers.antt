@@ -1,15 +1,7 @@
-use Rattle.std.proofs.Common.{◌≡◌, ℕ, ◌+◌, length, sym, ap, subst, arith}
-use Rattle.std.proofs.lemmas.List.{length-append}
+use Rattle.std.proofs.Common.{◌≡◌, ℕ, ◌+◌, length, sym, subst, arith}
 use Rattle.std.proofs.lemmas.Bool.{eqb-true, eqb-false}
-use Rattle.reader.specs.Parts.{event_bytes}
 use Rattle.reader.proofs.Surveys.{Walking, walk_more, walked, broken}
 use Rattle.reader.proofs.stored.survey_run.Goals as goal
-
-pub loop-left-smaller : goal.loop-left-smaller
-loop-left-smaller c =
-    let a = c.in-Ok.ensures in
-    let m = walk_more _ _ _ _ _ _ c.loop-left.invariant.0 a in
-    omega (arith, m.1, length-append (event_bytes c.in-Ok.event) c.in-Ok.rest.now, ap length a.whole)
 
 pub loop-left-preserved : goal.loop-left-preserved
 loop-left-preserved c =
