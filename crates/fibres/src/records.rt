@@ -13,7 +13,7 @@ const LONGEST: usize = 515;
 // Prints the record in each mode, a line for each.
 pub(crate) fn print_records<O: Write>(out: &mut O, number: u64, block: &Block) -> io::Result<()> {
     for mode in [Mode::ZeroSuppression, Mode::ProcessedRaw, Mode::VirginRaw] {
-        let code = kind_in(mode).code();
+        let code = u8::from(kind_in(mode));
         write!(out, "block {number} {code:02X} ")?;
         print_record(out, block, mode)?;
     }

@@ -1,6 +1,6 @@
 // The three kinds of record, with their packet codes and lengths.
 ghost use Rattle.std.specs.Prelude.{◌≡◌};
-ghost use Rattle.layout.specs.Event.{code, kind_of, shortest, longest};
+ghost use Rattle.layout.specs.Event.{code, shortest, longest};
 ghost use Rattle.layout.specs.Codes.{Decodes};
 
 #[derive(Clone, Copy, Debug, PartialEq, Eq)]
@@ -47,20 +47,6 @@ impl TryFrom<u8> for Kind {
 }
 
 impl Kind {
-    // The packet code.
-    pub fn code(self) -> u8
-        ensures { result ≡ code self }
-    {
-        u8::from(self)
-    }
-
-    // The kind of a packet code, if it is one.
-    pub fn from_code(code: u8) -> Option<Kind>
-        ensures { result ≡ kind_of code }
-    {
-        Kind::try_from(code).ok()
-    }
-
     // The length of the shortest record, in bytes.
     pub fn shortest(self) -> usize
         ensures { result ≡ shortest self }

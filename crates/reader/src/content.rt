@@ -6,7 +6,7 @@ ghost use Rattle.reader.specs.Questions.{verdict, read_suppressed, read_content}
 use crate::cluster::read_clusters;
 use crate::words::{number_in, read_words};
 use faults::RecordFault;
-use layout::Kind;
+use layout::{Kind, ProcessedRaw, RecordKind, VirginRaw, ZeroSuppressed};
 use terms::LARGEST;
 
 // Both common modes, then the clusters, from the offset `at` on.
@@ -28,14 +28,45 @@ fn read_suppressed(content: &[u8], at: usize) -> Result<(), RecordFault>
     Ok(())
 }
 
-// The questions of the content of a record of a kind, from the offset `at` on.
-pub(crate) fn read_content(kind: Kind, content: &[u8], at: usize) -> Result<(), RecordFault>
-    requires long { shortest kind ≤ 3 + length content.now }
-    requires within { at + length content.now < 2 ^ 64 }
-    ensures { result ≡ verdict (read_content kind at content.now) }
-{
-    match kind {
-        Kind::ZeroSuppressed => read_suppressed(content, at),
-        Kind::ProcessedRaw | Kind::VirginRaw => read_words(content, at),
+// A kind of record whose content can be read.
+pub(crate) trait ReadKind: RecordKind {
+    fn kind_of_record() -> Kind
+        ensures { result ≡ Self.RecordKind.kind };
+
+    // The questions of a content, from the offset `at` on.
+    fn read_content(content: &[u8], at: usize) -> Result<(), RecordFault>
+        requires long { shortest Self.RecordKind.kind ≤ 3 + length content.now }
+        requires within { at + length content.now < 2 ^ 64 }
+        ensures { result ≡ verdict (read_content Self.RecordKind.kind at content.now) };
+}
+
+impl ReadKind for ZeroSuppressed {
+    fn kind_of_record() -> Kind {
+        Kind::ZeroSuppressed
+    }
+
+    fn read_content(content: &[u8], at: usize) -> Result<(), RecordFault> {
+        read_suppressed(content, at)
+    }
+}
+
+// The two kinds of raw record differ in their constants alone: each kind brings its own, a rule of the project.
+impl ReadKind for ProcessedRaw {
+    fn kind_of_record() -> Kind {
+        Kind::ProcessedRaw
+    }
+
+    fn read_content(content: &[u8], at: usize) -> Result<(), RecordFault> {
+        read_words(content, at)
+    }
+}
+
+impl ReadKind for VirginRaw {
+    fn kind_of_record() -> Kind {
+        Kind::VirginRaw
+    }
+
+    fn read_content(content: &[u8], at: usize) -> Result<(), RecordFault> {
+        read_words(content, at)
     }
 }

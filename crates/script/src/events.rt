@@ -64,7 +64,7 @@ fn print_record<O: Write>(
     fibre: usize,
     record: &Record<'_>,
 ) -> Result<(), Failure> {
-    let code = record.kind().code();
+    let code = u8::from(record.kind());
     let content = Content(record);
     answers.print(format_args!("fibre {fibre} {code:02X}{content}"))?;
     // By number, as the record is asked for its clusters.
@@ -103,7 +103,7 @@ pub(crate) fn answer_question<O: Write>(
     match question {
         EventQuestion::Record(fibre) => match event.record(fibre) {
             Ok(record) => {
-                let code = record.kind().code();
+                let code = u8::from(record.kind());
                 let size = record.size();
                 answers.print(format_args!("record {code:02X} {size}"))
             }

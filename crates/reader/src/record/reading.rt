@@ -5,23 +5,24 @@ ghost use Rattle.layout.specs.declared.kind.Kind.{Kind as KindOf};
 ghost use Rattle.layout.specs.Event.{code as packet_code};
 ghost use Rattle.reader.specs.Questions.{verdict, read_record, read_body};
 
-use crate::content::read_content;
+use crate::content::ReadKind;
 use faults::RecordFault;
-use layout::Kind;
+use layout::{Kind, ProcessedRaw, RecordKind, VirginRaw, ZeroSuppressed};
 
-// The questions of a record of a kind, of `size` bytes, whose header begins at the offset `at`; `rest` is all that
-// lies behind the header.
-fn read_body(kind: Kind, size: usize, rest: &[u8], at: usize) -> Result<(), RecordFault>
+// The questions of a record of the kind `K`, of `size` bytes, whose header begins at the offset `at`; `rest` is
+// all that lies behind the header.
+fn read_body<K: ReadKind>(size: usize, rest: &[u8], at: usize) -> Result<(), RecordFault>
     requires { at + 3 + length rest.now < 2 ^ 64 }
-    ensures { result ≡ verdict (read_body kind at size rest.now) }
+    ensures { result ≡ verdict (read_body K.RecordKind.kind at size rest.now) }
 {
+    let kind = K::kind_of_record();
     if size < kind.shortest() || size > kind.longest() {
         return Err(RecordFault::LengthRange(at));
     }
     if size > 3 + rest.len() {
         return Err(RecordFault::Outside(at));
     }
-    read_content(kind, &rest[0..size - 3], at + 3)
+    K::read_content(&rest[0..size - 3], at + 3)
 }
 
 // Reads a record behind its header, which has the length `size` and the packet code `code` and begins at the offset
@@ -38,7 +39,7 @@ pub(crate) fn read_record(
     ensures kind { IfOk result (λ kind. code ≡ packet_code kind) }
     ensures same { IfOk result (λ kind. (f : KindOf) → first ≡ Some f → kind ≡ f) }
 {
-    let Some(kind) = Kind::from_code(code) else {
+    let Ok(kind) = Kind::try_from(code) else {
         return Err(RecordFault::UnknownCode(at + 2));
     };
     if let Some(first) = first {
@@ -46,6 +47,10 @@ pub(crate) fn read_record(
             return Err(RecordFault::OtherKind(at + 2));
         }
     }
-    read_body(kind, size, rest, at)?;
+    match kind {
+        Kind::ZeroSuppressed => read_body::<ZeroSuppressed>(size, rest, at)?,
+        Kind::ProcessedRaw => read_body::<ProcessedRaw>(size, rest, at)?,
+        Kind::VirginRaw => read_body::<VirginRaw>(size, rest, at)?,
+    }
     Ok(kind)
 }
