@@ -4,17 +4,10 @@ use Rattle.card.proofs.CardLaws.{card_laws}
 use Rattle.card.proofs.card.Card.ask.Goals as goal
 
 pub returns-then-self : goal.returns-then-self
-<<<<<<< HEAD
-returns-then-self g c = record { step = asked_out _ _ _ _ c.if-self.true; slip = tt; rule = refl; laws = laws_after _ (g.met.R.Rule.bounded c.args.self.now.rule) _ _ _ (g.met.S.Store.sound c.args.self.now.store).limit _ }
-
-pub returns-in-None : goal.returns-in-None
-returns-in-None g c = record { step = asked_none _ _ _ _ c.if-self.false c.in-None.ensures; slip = tt; rule = refl; laws = laws_after _ (g.met.R.Rule.bounded c.args.self.now.rule) _ _ _ (g.met.S.Store.sound c.args.self.now.store).limit _ }
-=======
 returns-then-self g c = rw (← c.self.view_is) (record { step = asked_out _ _ _ _ c.if-self.true; slip = tt; rule = refl; laws = card_laws g.S.Store _ (g.met.R.Rule.bounded _) _ _ (g.met.S.Store.sound _).limit _ })
 
 pub returns-in-None : goal.returns-in-None
 returns-in-None g c = rw (← c.self.view_is) (record { step = asked_none _ _ _ _ c.if-self.false c.in-None.ensures; slip = tt; rule = refl; laws = card_laws g.S.Store _ (g.met.R.Rule.bounded _) _ _ (g.met.S.Store.sound _).limit _ })
->>>>>>> 390370e29d18d4de15c3aa3d88393ba2770af94f
 
 pub returns-in-Some : goal.returns-in-Some
 returns-in-Some g c =
@@ -22,10 +15,5 @@ returns-in-Some g c =
       step = asked_some _ _ _ _ _ _ c.if-self.false c.in-Some.ensures (c.new.ensures.length ∙ c.event_length.ensures);
       slip = c.new.ensures.spent;
       rule = refl;
-<<<<<<< HEAD
-      laws = laws_after _ (g.met.R.Rule.bounded c.args.self.now.rule) _ _ _ (g.met.S.Store.sound c.args.self.now.store).limit _;
-    }
-=======
       laws = card_laws g.S.Store _ (g.met.R.Rule.bounded _) _ _ (g.met.S.Store.sound _).limit _;
     })
->>>>>>> 390370e29d18d4de15c3aa3d88393ba2770af94f

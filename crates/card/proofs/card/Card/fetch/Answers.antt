@@ -4,11 +4,7 @@ use Rattle.card.proofs.CardLaws.{card_laws}
 use Rattle.card.proofs.card.Card.fetch.Goals as goal
 
 pub returns-then-not-self : goal.returns-then-not-self
-<<<<<<< HEAD
-returns-then-not-self g c = record { step = fetch_refused _ _ _ _ _ c.if-not-self.true; written = refl; slip = refl; rule = refl; laws = laws_after _ (g.met.R.Rule.bounded c.args.self.now.rule) _ _ _ (g.met.S.Store.sound c.args.self.now.store).limit _ }
-=======
 returns-then-not-self g c = rw (← c.self.view_is) (record { step = fetch_refused _ _ _ _ _ c.if-not-self.true; written = refl; slip = refl; rule = refl; laws = card_laws g.S.Store _ (g.met.R.Rule.bounded _) _ _ (g.met.S.Store.sound _).limit _ })
->>>>>>> 390370e29d18d4de15c3aa3d88393ba2770af94f
 
 pub returns-then-buffer-length : goal.returns-then-buffer-length
 returns-then-buffer-length g c =
@@ -19,13 +15,8 @@ returns-then-buffer-length g c =
       written = refl;
       slip = refl;
       rule = refl;
-<<<<<<< HEAD
-      laws = laws_after _ (g.met.R.Rule.bounded c.args.self.now.rule) _ _ _ (g.met.S.Store.sound c.args.self.now.store).limit _;
-    }
-=======
       laws = card_laws g.S.Store _ (g.met.R.Rule.bounded _) _ _ (g.met.S.Store.sound _).limit _;
     })
->>>>>>> 390370e29d18d4de15c3aa3d88393ba2770af94f
 
 pub returns : goal.returns
 returns g c =
@@ -46,12 +37,6 @@ returns g c =
         bytes_written core lists room lengths same _ _ n long c.take_event.ensures.out,
       );
       slip = tt;
-<<<<<<< HEAD
-      rule = refl {a = c.args.self.now.rule};
-      laws = laws_after _ (g.met.R.Rule.bounded c.args.self.now.rule) _ _ _ (g.met.S.Store.sound c.args.self.now.store).limit _;
-    }
-=======
       rule = refl {a = c.self.inside.rule};
       laws = card_laws g.S.Store _ (g.met.R.Rule.bounded _) _ _ (g.met.S.Store.sound _).limit _;
     })
->>>>>>> 390370e29d18d4de15c3aa3d88393ba2770af94f
