@@ -2,20 +2,12 @@
 use crate::answers::Answers;
 use crate::failure::Failure;
 use call_script::EventQuestion;
-use faults::{EventFault, Layer};
+use faults::EventFault;
 use hex_text::Hex;
 use reader::{Cluster, Event, Record, read_event};
 use std::fmt;
 use std::io::Write;
-use terms::{FIBRES, Refusal, STRIPS};
-
-fn layer_name(layer: Layer) -> &'static str {
-    match layer {
-        Layer::Event => "event",
-        Layer::Record => "record",
-        Layer::Cluster => "cluster",
-    }
-}
+use terms::Refusal;
 
 // What stands behind the packet code of a record: its common modes, or the words of a raw record.
 #[derive(Clone, Copy)]
@@ -26,8 +18,10 @@ impl fmt::Display for Content<'_, '_> {
         if let Some(modes) = self.0.common_modes() {
             write!(f, " {} {}", modes.left, modes.right)?;
         }
-        for word in (0..STRIPS).filter_map(|index| self.0.word(index)) {
-            write!(f, " {word}")?;
+        if let Some(words) = self.0.words() {
+            for word in words {
+                write!(f, " {word}")?;
+            }
         }
         Ok(())
     }
@@ -38,7 +32,7 @@ pub(crate) fn print_fault<O: Write>(
     fault: EventFault,
 ) -> Result<(), Failure> {
     let number = fault.number();
-    let layer = layer_name(fault.layer());
+    let layer = fault.layer();
     let offset = fault.offset();
     answers.print(format_args!("fault {number} {layer} {offset}"))
 }
@@ -49,11 +43,8 @@ pub(crate) fn print_event<O: Write>(
 ) -> Result<(), Failure> {
     let size = event.size();
     answers.print(format_args!("event {size}"))?;
-    // By number, since the number is printed.
-    for fibre in 0..FIBRES {
-        if let Ok(record) = event.record(fibre) {
-            print_record(answers, fibre, &record)?;
-        }
+    for (fibre, record) in event.records().enumerate() {
+        print_record(answers, fibre, &record)?;
     }
     Ok(())
 }
@@ -67,9 +58,8 @@ fn print_record<O: Write>(
     let code = u8::from(record.kind());
     let content = Content(record);
     answers.print(format_args!("fibre {fibre} {code:02X}{content}"))?;
-    // By number, as the record is asked for its clusters.
-    for index in 0..record.cluster_count().unwrap_or(0) {
-        if let Ok(cluster) = record.cluster(index) {
+    if let Some(clusters) = record.clusters() {
+        for cluster in clusters {
             print_cluster(answers, cluster)?;
         }
     }
