@@ -24,6 +24,11 @@ pub decoded_unknown : (w : ℕ) → (leb 1 (kind w) && leb (kind w) 5) ≡ false
 unfolding decoded refusal setting_of
 decoded_unknown w h = simp (h, asked)
 
+pub decoded_no_fibre :
+    (w k : ℕ) → kind w ≡ k → ((leb 1 k && leb k 5) ≡ true) × (eqb k 1 ≡ false) → ltb (fibre_field w) 12 ≡ false → decoded w ≡ Err NoSuchFibre
+unfolding decoded refusal setting_of
+decoded_no_fibre w k h known f = simp (h, known.0, known.1, f, asked)
+
 pub decoded_mode :
     (w : ℕ) → kind w ≡ 1 →
     decoded w ≡

@@ -1,6 +1,6 @@
 -- What becomes of a word, from the facts about its fields that a decoder finds out.
 -- Assumes nothing.
-use Rattle.std.proofs.Common.{◌≡◌, ℕ, ◌<◌, ◌≤◌, Bool, true, false, ◌&&◌, ◌||◌, eqb, leb, IsErrAnd, Ok, Err, Result, sym, refl, ap, ◌∙◌}
+use Rattle.std.proofs.Common.{◌≡◌, ◌≢◌, ℕ, ◌<◌, ◌≤◌, Bool, true, false, ◌&&◌, ◌||◌, eqb, leb, IsErrAnd, Ok, Err, Result, sym, refl, ap, ◌∙◌}
 use Rattle.std.proofs.lemmas.Bool.{and_parts, and_from, and_left, and_right, or_from, eq-eqb, ne_eqb, lt-ltb, le-ltb, leb-true, cond-true, cond-false}
 use Rattle.terms.specs.declared.enable.Enable.{Enable}
 use Rattle.terms.specs.declared.fibre.Fibre.{Fibre}
@@ -8,15 +8,17 @@ use Rattle.terms.specs.declared.pair.Side.{Side}
 use Rattle.terms.specs.declared.refusal.Refusal.{Refusal}
 use Rattle.terms.specs.declared.refusal.Refusal.TheVariants.{UnknownSetting, NoSuchFibre, UnusedBits, UnknownMode, ThresholdOrder}
 use Rattle.settings.specs.declared.mode.Mode.{Mode}
+use Rattle.settings.specs.declared.mode.Mode.TheVariants.{ZeroSuppression, ProcessedRaw, VirginRaw}
 use Rattle.settings.specs.declared.parts.Pedestal.{Pedestal}
 use Rattle.settings.specs.declared.parts.Thresholds.{Thresholds}
 use Rattle.settings.specs.declared.parts.TickThreshold.{TickThreshold}
 use Rattle.settings.specs.declared.setting.Setting.{Setting}
 use Rattle.settings.specs.declared.setting.Setting.TheVariants as settings
 use Rattle.settings.specs.Fields.{bits, flag, kind, fibre_field, mode_field, thresh1_field, thresh2_field}
+use Rattle.settings.specs.Modes.{mode_number}
 use Rattle.settings.specs.Order.{in_order}
 use Rattle.settings.specs.Words.{decoded, enable_from, side_from, mode_from, tick_setting, pedestal_setting, thresholds_setting, rank_setting, threshold_from, pedestal_from}
-use Rattle.settings.proofs.Asked.{ask, decoded_unknown, decoded_mode, decoded_tick, decoded_pedestal, decoded_thresholds, decoded_rank}
+use Rattle.settings.proofs.Asked.{ask, decoded_unknown, decoded_no_fibre, decoded_mode, decoded_tick, decoded_pedestal, decoded_thresholds, decoded_rank}
 use Rattle.settings.proofs.Ranges.{same_fibre, same_threshold, same_pedestal, same_thresholds, within}
 
 -- the exit of a `?`
@@ -44,24 +46,34 @@ no_kind k false e h = refl
 pub unknown : (w : ℕ) → (1 ≤ kind w → kind w ≤ 5 → ⊥) → decoded w ≡ Err UnknownSetting
 unknown w h = decoded_unknown w (no_kind (kind w) (leb 1 (kind w) && leb (kind w) 5) refl h)
 
+-- the exit of a `?` on the fibre of a word of kind k, 2 to 5
+pub fibre_refused :
+    (w k : ℕ) (r : Result Setting Refusal) (y : Refusal) → kind w ≡ k → ((leb 1 k && leb k 5) ≡ true) × (eqb k 1 ≡ false) →
+    IsErrAnd r (λ x. x ≡ y) → (12 ≤ fibre_field w) × (y ≡ NoSuchFibre) → r ≡ decoded w
+fibre_refused w k r y h known exit no_fibre = refused r (decoded w) y NoSuchFibre exit no_fibre.1 (decoded_no_fibre w k h known (le-ltb (fibre_field w) 12 no_fibre.0))
+
 pub mode_unused : (w : ℕ) → kind w ≡ 1 → (bits 27 5 w ≡ 0 → ⊥) → decoded w ≡ Err UnusedBits
 mode_unused w k h = decoded_mode w k ∙ no _ _ _ (set (bits 27 5 w) true h)
 
 pub mode_unknown :
-    (w : ℕ) → kind w ≡ 1 → bits 27 5 w ≡ 0 → (mode_field w ≡ 6 → ⊥) → (mode_field w ≡ 10 → ⊥) → (mode_field w ≡ 18 → ⊥) →
-    decoded w ≡ Err UnknownMode
-mode_unknown w k z a b c =
+    (w : ℕ) → kind w ≡ 1 → bits 27 5 w ≡ 0 → ((mode : Mode) → mode_number mode ≢ mode_field w) → decoded w ≡ Err UnknownMode
+mode_unknown w k z none =
     decoded_mode w k ∙ yes_then _ _ _ _ (zero (bits 27 5 w) true z refl)
-    (no _ _ _ (or_from _ _ (ne_eqb (mode_field w) 6 a) (or_from _ _ (ne_eqb (mode_field w) 10 b) (ne_eqb (mode_field w) 18 c))))
+    (no _ _ _ (or_from _ _ (is_not VirginRaw) (or_from _ _ (is_not ZeroSuppression) (is_not ProcessedRaw))))
+  where
+    is_not : (mode : Mode) → eqb (mode_field w) (mode_number mode) ≡ false
+    is_not mode = ne_eqb (mode_field w) (mode_number mode) (λ e. none mode (sym e))
 
-pub mode_taken : (w n : ℕ) (m : Mode) → kind w ≡ 1 → bits 27 5 w ≡ 0 → mode_field w ≡ n → (eqb n 6 || (eqb n 10 || eqb n 18)) ≡ true → m ≡ mode_from n → Ok (settings.Mode m) ≡ decoded w
-mode_taken w n m k z e known is =
+mode_known : (m : Mode) → let n = mode_number m in ((eqb n 6 || (eqb n 10 || eqb n 18)) ≡ true) × (mode_from n ≡ m)
+mode_known ZeroSuppression = (refl, refl)
+mode_known ProcessedRaw = (refl, refl)
+mode_known VirginRaw = (refl, refl)
+
+pub mode_taken : (w : ℕ) (m : Mode) → kind w ≡ 1 → bits 27 5 w ≡ 0 → mode_number m ≡ mode_field w → Ok (settings.Mode m) ≡ decoded w
+mode_taken w m k z is =
     sym
     (decoded_mode w k ∙ yes_then _ _ _ _ (zero (bits 27 5 w) true z refl)
-    (simp e (yes_then _ _ _ _ known (ap (λ (x : Mode). Ok (settings.Mode x)) (sym is)))))
-
-pub tick_no_fibre : (w : ℕ) → kind w ≡ 2 → 12 ≤ fibre_field w → decoded w ≡ Err NoSuchFibre
-tick_no_fibre w k h = decoded_tick w k ∙ no _ _ _ (le-ltb (fibre_field w) 12 h)
+    (simp (sym is) (yes_then _ _ _ _ (mode_known m).0 (ap (λ (x : Mode). Ok (settings.Mode x)) (mode_known m).1))))
 
 pub tick_unused : (w : ℕ) → kind w ≡ 2 → fibre_field w < 12 → (bits 23 8 w ≡ 0 → ⊥) → decoded w ≡ Err UnusedBits
 tick_unused w k f h =
@@ -78,9 +90,6 @@ tick_taken w {f} {e} {i} {t} k at z p q r =
     taken ∙ sym (decoded_tick w k ∙ yes_then _ _ _ _ (lt-ltb (fibre_field w) 12 (within f (fibre_field w) at))
     (yes_then _ _ _ _ (zero (bits 23 8 w) true z refl) refl))
 
-pub pedestal_no_fibre : (w : ℕ) → kind w ≡ 3 → 12 ≤ fibre_field w → decoded w ≡ Err NoSuchFibre
-pedestal_no_fibre w k h = decoded_pedestal w k ∙ no _ _ _ (le-ltb (fibre_field w) 12 h)
-
 pub pedestal_unused : (w : ℕ) → kind w ≡ 3 → fibre_field w < 12 → (bits 15 11 w ≡ 0 → ⊥) → decoded w ≡ Err UnusedBits
 pedestal_unused w k f h =
     decoded_pedestal w k ∙ yes_then _ _ _ _ (lt-ltb (fibre_field w) 12 f) (no _ _ _ (set (bits 15 11 w) true h))
@@ -95,9 +104,6 @@ pedestal_taken w {f} {s} {v} {p} k at z strip valid r =
     let taken : Ok (settings.Pedestal f s v p) ≡ Ok (pedestal_setting w) = cc in
     taken ∙ sym (decoded_pedestal w k ∙ yes_then _ _ _ _ (lt-ltb (fibre_field w) 12 (within f (fibre_field w) at))
     (yes_then _ _ _ _ (zero (bits 15 11 w) true z refl) refl))
-
-pub thresholds_no_fibre : (w : ℕ) → kind w ≡ 4 → 12 ≤ fibre_field w → decoded w ≡ Err NoSuchFibre
-thresholds_no_fibre w k h = decoded_thresholds w k ∙ no _ _ _ (le-ltb (fibre_field w) 12 h)
 
 pub thresholds_disordered :
     (w : ℕ) → kind w ≡ 4 → fibre_field w < 12 → in_order (thresh1_field w) (thresh2_field w) ≡ false → decoded w ≡ Err ThresholdOrder
@@ -114,9 +120,6 @@ thresholds_taken w {f} {s} {t} k at strip p q =
     let ordered : in_order (thresh1_field w) (thresh2_field w) ≡ true = simp (sym p, sym q) t.ordered in
     taken ∙ sym (decoded_thresholds w k ∙ yes_then _ _ _ _ (lt-ltb (fibre_field w) 12 (within f (fibre_field w) at))
     (yes_then _ _ _ _ ordered refl))
-
-pub rank_no_fibre : (w : ℕ) → kind w ≡ 5 → 12 ≤ fibre_field w → decoded w ≡ Err NoSuchFibre
-rank_no_fibre w k h = decoded_rank w k ∙ no _ _ _ (le-ltb (fibre_field w) 12 h)
 
 pub rank_unused_high : (w : ℕ) → kind w ≡ 5 → fibre_field w < 12 → (bits 23 17 w ≡ 0 → ⊥) → decoded w ≡ Err UnusedBits
 rank_unused_high w k f h =

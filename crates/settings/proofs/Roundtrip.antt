@@ -20,7 +20,7 @@ use Rattle.settings.specs.declared.setting.Setting.TheVariants as settings
 use Rattle.settings.specs.Fields.{bits, bit, kind, fibre_field, mode_field, thresh1_field, thresh2_field}
 use Rattle.settings.specs.Modes.{mode_number}
 use Rattle.settings.specs.Order.{in_order}
-use Rattle.settings.specs.Words.{decoded, word_of, mode_from, enable_from, side_from, fibre_if, fibre_from, thresholds_if, mode_setting, tick_setting, pedestal_setting, thresholds_setting, rank_setting}
+use Rattle.settings.specs.Words.{Decodes, Encodes, decoded, word_of, mode_from, enable_from, side_from, fibre_if, fibre_from, thresholds_if, mode_setting, tick_setting, pedestal_setting, thresholds_setting, rank_setting}
 use Rattle.settings.proofs.Asked.{ask, decoded_mode, decoded_tick, decoded_pedestal, decoded_thresholds, decoded_rank}
 use Rattle.settings.proofs.Decoding.{unknown, mode_taken, tick_taken, pedestal_taken, thresholds_taken, rank_taken}
 
@@ -85,9 +85,9 @@ thresholds_at a b false e h = absurd (both_ways (in_order a b) e h)
 -- every setting's word stands for it
 
 pub mode_word : (m : Mode) → decoded (word_of (settings.Mode m)) ≡ Ok (settings.Mode m)
-mode_word ZeroSuppression = sym (mode_taken (1 * 2 ^ 28 + 10) 10 ZeroSuppression refl refl refl refl refl)
-mode_word ProcessedRaw = sym (mode_taken (1 * 2 ^ 28 + 18) 18 ProcessedRaw refl refl refl refl refl)
-mode_word VirginRaw = sym (mode_taken (1 * 2 ^ 28 + 6) 6 VirginRaw refl refl refl refl refl)
+mode_word ZeroSuppression = sym (mode_taken (1 * 2 ^ 28 + 10) ZeroSuppression refl refl refl)
+mode_word ProcessedRaw = sym (mode_taken (1 * 2 ^ 28 + 18) ProcessedRaw refl refl refl)
+mode_word VirginRaw = sym (mode_taken (1 * 2 ^ 28 + 6) VirginRaw refl refl refl)
 
 -- a field of a word: above it stands `high`, below it `low`
 field_is : (w unit size high v low : ℕ) → w ≡ (high * size + v) * unit + low → low < unit → v < size → v ≡ w / unit % size
@@ -265,13 +265,14 @@ taken_word w h s d =
     (cases_eq (kind w) 2))
     (cases_eq (kind w) 1)
 
--- the same of what a decoder answers
-pub encodes : (w : ℕ) (r : Result Setting Refusal) → w < 2 ^ 32 → r ≡ decoded w → IfOk r (λ s. word_of s ≡ w)
+-- so it is of what a decoder answers
+encodes : (w : ℕ) (r : Result Setting Refusal) → w < 2 ^ 32 → r ≡ decoded w → IfOk r (λ s. word_of s ≡ w)
 encodes w (Ok s) h e = taken_word w h s (sym e)
 encodes w (Err x) h e = tt
 
+pub decodes_as : (w : ℕ) (r : Result Setting Refusal) → w < 2 ^ 32 → r ≡ decoded w → Decodes w r
+decodes_as w r h e = record { means = e; encodes = encodes w r h e }
+
 -- and of what an encoder answers
-pub with_word :
-    {r : ℕ} {self : Setting} (s : Setting) → self ≡ s → r ≡ word_of self → decoded (word_of s) ≡ Ok s →
-    record { means : r ≡ word_of self; decodes : decoded r ≡ Ok self }
-with_word {r} {self} s e h d = record { means = h; decodes = ap decoded (h ∙ ap word_of e) ∙ (d ∙ ap Ok (sym e)) }
+pub encodes_as : {r : ℕ} {self : Setting} (s : Setting) → self ≡ s → r ≡ word_of self → decoded (word_of s) ≡ Ok s → Encodes self r
+encodes_as {r} {self} s e h d = record { means = h; decodes = ap decoded (h ∙ ap word_of e) ∙ (d ∙ ap Ok (sym e)) }

@@ -1,6 +1,6 @@
 -- Setting words: the word of each setting, and the setting that a word stands for.
 -- Assumes nothing.
-use Rattle.std.specs.Prelude.{◌≡◌, ℕ, ◌+◌, ◌*◌, ◌/◌, ◌^◌, Bool, true, false, cond, [], ◌∷◌, Some, None, Ok, Err, Result, ◌==◌, nat_lt, slice_index_or, refl}
+use Rattle.std.specs.Prelude.{◌≡◌, ℕ, ◌+◌, ◌*◌, ◌/◌, ◌^◌, Bool, true, false, cond, [], ◌∷◌, Some, None, Ok, Err, Result, IfOk, ◌==◌, nat_lt, slice_index_or, refl}
 use Rattle.std.proofs.Common.{lit<}
 use Rattle.std.proofs.lemmas.Bool.{ltb-true}
 use Rattle.std.proofs.lemmas.Nat.{mod_below}
@@ -110,3 +110,13 @@ setting_of word =
 -- what becomes of a word: the setting that it stands for, or the first question that is answered no
 unfoldable pub decoded : ℕ → Result Setting Refusal
 decoded word = elim (refusal word) [ Some e ↦ Err e | None ↦ Ok (setting_of word) ]
+
+-- the answer is what becomes of a word, and a word that is taken is the word of the setting that it stands for
+pub record Decodes (word : ℕ) (answer : Result Setting Refusal) : Type 0 where
+  pub means : answer ≡ decoded word
+  pub encodes : IfOk answer (λ setting. word_of setting ≡ word)
+
+-- a word is that of a setting, and stands for it
+pub record Encodes (setting : Setting) (word : ℕ) : Type 0 where
+  pub means : word ≡ word_of setting
+  pub decodes : decoded word ≡ Ok setting

@@ -1,172 +1,198 @@
 // The word of a setting, and the setting that a word stands for.
-//
-// A word has 32 bits. The top four are its kind, 1 to 5; kinds 2 to 5 have the fibre in bits 27 to 24.
-ghost use Rattle.std.specs.Prelude.{◌≡◌, ◌+◌, ◌*◌, ◌^◌, ◌<◌, ◌≤◌, false, IfOk, Ok, MatchResult};
-ghost use Rattle.settings.specs.Fields.{bits as bits_of, flag as flag_of, kind};
-ghost use Rattle.settings.specs.Words.{decoded, enable_from, side_from, word_of};
-ghost use Rattle.settings.specs.Order.{in_order};
-ghost use Rattle.terms.specs.declared.refusal.Refusal.TheVariants.{ThresholdOrder};
+ghost use Rattle.std.specs.Prelude.{◌≡◌, ◌+◌, ◌*◌, ◌^◌, ◌<◌, ◌≤◌, IfOk, IfErr};
+ghost use Rattle.settings.specs.Fields.{bits as bits_of, flag as flag_of, kind as kind_of, fibre_field};
+ghost use Rattle.settings.specs.Words.{decoded, enable_from, side_from};
+ghost use Rattle.terms.specs.declared.refusal.Refusal.TheVariants.{NoSuchFibre};
 
 use crate::mode::Mode;
 use crate::parts::{Pedestal, Thresholds, TickThreshold};
 use crate::setting::Setting;
 use terms::{Enable, Fibre, Refusal, Side};
 
-// The bits of a word from `high` down to `low`, as a number.
-fn bits(word: u32, high: u32, low: u32) -> u32
-    requires { (low ≤ high) × ((high < low + 31) × (high < 32)) }
-    ensures { result ≡ bits_of high low word }
-{
-    (word >> low) & ((1 << (high + 1 - low)) - 1)
-}
+// A word has 32 bits. The top four are its kind, 1 to 5; kinds 2 to 5 have the fibre in bits 27 to 24.
+#[derive(Clone, Copy)]
+struct Word(u32);
 
-// The bit of a word at one place.
-fn flag(word: u32, place: u32) -> bool
-    requires { place < 32 }
-    ensures { result ≡ flag_of place word }
-{
-    bits(word, place, place) == 1
-}
-
-// The enable of a number 0 to 3.
-fn enable(number: u32) -> Enable
-    requires { number < 4 }
-    ensures { result ≡ enable_from number }
-{
-    match number {
-        0 => Enable::Neither,
-        1 => Enable::Right,
-        2 => Enable::Left,
-        _ => Enable::Both,
-    }
-}
-
-// The side of its bit: a 1 is right.
-fn side(right: bool) -> Side
-    ensures { result ≡ side_from right }
-{
-    if right { Side::Right } else { Side::Left }
-}
-
-// Kind 1: the mode in bits 4 to 0.
-fn decode_mode(word: u32) -> Result<Setting, Refusal>
-    requires { kind word ≡ 1 }
-    ensures { result ≡ decoded word }
-{
-    if bits(word, 27, 5) != 0 {
-        return Err(Refusal::UnusedBits);
-    }
-    match bits(word, 4, 0) {
-        6 => Ok(Setting::Mode(Mode::VirginRaw)),
-        10 => Ok(Setting::Mode(Mode::ZeroSuppression)),
-        18 => Ok(Setting::Mode(Mode::ProcessedRaw)),
-        _ => Err(Refusal::UnknownMode),
-    }
-}
-
-// Kind 2: the enable in bits 7 and 6, the complement flag in bit 5, the tick threshold in bits 4 to 0.
-fn decode_tick(word: u32) -> Result<Setting, Refusal>
-    requires { kind word ≡ 2 }
-    ensures { result ≡ decoded word }
-{
-    let fibre = Fibre::new(bits(word, 27, 24) as usize)?;
-    if bits(word, 23, 8) != 0 {
-        return Err(Refusal::UnusedBits);
-    }
-    Ok(Setting::Tick {
-        fibre,
-        enable: enable(bits(word, 7, 6)),
-        complement: flag(word, 5),
-        threshold: TickThreshold {
-            value: bits(word, 4, 0) as u8,
-        },
-    })
-}
-
-// Kind 3: the strip in bits 23 to 16, the valid flag in bit 10, the pedestal in bits 9 to 0.
-fn decode_pedestal(word: u32) -> Result<Setting, Refusal>
-    requires { kind word ≡ 3 }
-    ensures { result ≡ decoded word }
-{
-    let fibre = Fibre::new(bits(word, 27, 24) as usize)?;
-    if bits(word, 15, 11) != 0 {
-        return Err(Refusal::UnusedBits);
-    }
-    Ok(Setting::Pedestal {
-        fibre,
-        strip: bits(word, 23, 16) as u8,
-        valid: flag(word, 10),
-        pedestal: Pedestal {
-            value: bits(word, 9, 0) as u16,
-        },
-    })
-}
-
-// Kind 4: the strip in bits 23 to 16, thresh2 in bits 15 to 8, thresh1 in bits 7 to 0.
-fn decode_thresholds(word: u32) -> Result<Setting, Refusal>
-    requires { kind word ≡ 4 }
-    ensures { result ≡ decoded word }
-{
-    let fibre = Fibre::new(bits(word, 27, 24) as usize)?;
-    let thresholds = thresholds(bits(word, 7, 0) as u8, bits(word, 15, 8) as u8)?;
-    Ok(Setting::Thresholds {
-        fibre,
-        strip: bits(word, 23, 16) as u8,
-        thresholds,
-    })
-}
-
-// Two thresholds, if they are in order.
-fn thresholds(thresh1: u8, thresh2: u8) -> Result<Thresholds, Refusal>
-    ensures { MatchResult result (λ t. (t.thresh1 ≡ thresh1) × (t.thresh2 ≡ thresh2)) (λ e. (in_order thresh1 thresh2 ≡ false) × (e ≡ ThresholdOrder)) }
-{
-    if thresh1 < thresh2 || (thresh1 == 255 && thresh2 == 255) {
-        Ok(Thresholds { thresh1, thresh2 })
-    } else {
-        Err(Refusal::ThresholdOrder)
-    }
-}
-
-// Kind 5: the side in bit 16, the rank setting in bits 7 to 0.
-fn decode_rank(word: u32) -> Result<Setting, Refusal>
-    requires { kind word ≡ 5 }
-    ensures { result ≡ decoded word }
-{
-    let fibre = Fibre::new(bits(word, 27, 24) as usize)?;
-    if bits(word, 23, 17) != 0 || bits(word, 15, 8) != 0 {
-        return Err(Refusal::UnusedBits);
-    }
-    Ok(Setting::Rank {
-        fibre,
-        side: side(flag(word, 16)),
-        rank: bits(word, 7, 0) as u8,
-    })
-}
-
-impl Setting {
-    // The setting that a word stands for; else the refusal of the first question that is answered no.
-    // A word that is taken is the word of the setting that it stands for.
-    pub fn decode(word: u32) -> Result<Setting, Refusal>
-        ensures means { result ≡ decoded word }
-        ensures encodes { IfOk result (λ s. word_of s ≡ word) }
+// The fields of a word.
+impl Word {
+    // The bits from `high` down to `low`, as a number.
+    fn bits(self, high: u32, low: u32) -> u32
+        requires ordered { low ≤ high }
+        requires narrow { high < low + 31 }
+        requires inside { high < 32 }
+        ensures { result ≡ bits_of high low self.0 }
     {
-        match bits(word, 31, 28) {
-            1 => decode_mode(word),
-            2 => decode_tick(word),
-            3 => decode_pedestal(word),
-            4 => decode_thresholds(word),
-            5 => decode_rank(word),
-            _ => Err(Refusal::UnknownSetting),
+        (self.0 >> low) & ((1 << (high + 1 - low)) - 1)
+    }
+
+    // The bit at one place.
+    fn flag(self, place: u32) -> bool
+        requires { place < 32 }
+        ensures { result ≡ flag_of place self.0 }
+    {
+        self.bits(place, place) == 1
+    }
+
+    // The top four bits.
+    fn kind(self) -> u32
+        ensures { result ≡ kind_of self.0 }
+    {
+        self.bits(31, 28)
+    }
+
+    // Of kinds 2 to 5: the fibre in bits 27 to 24; 3 where there is none.
+    fn fibre(self) -> Result<Fibre, Refusal>
+        ensures taken { IfOk result (λ f. f.index ≡ fibre_field self.0) }
+        ensures refused { IfErr result (λ e. (12 ≤ fibre_field self.0) × (e ≡ NoSuchFibre)) }
+    {
+        Fibre::new(self.bits(27, 24) as usize)
+    }
+
+    // Of kinds 3 and 4: the strip in bits 23 to 16.
+    fn strip(self) -> u8
+        ensures { result ≡ bits_of 23 16 self.0 }
+    {
+        self.bits(23, 16) as u8
+    }
+
+    // Of kind 2: the left chip's bit 7, then the right chip's bit 6.
+    fn enable(self) -> Enable
+        ensures { result ≡ enable_from (bits_of 7 6 self.0) }
+    {
+        match (self.flag(7), self.flag(6)) {
+            (false, false) => Enable::Neither,
+            (false, true) => Enable::Right,
+            (true, false) => Enable::Left,
+            (true, true) => Enable::Both,
         }
     }
 
-    // The word of a setting, which stands for it.
-    pub fn encode(self) -> u32
-        ensures means { result ≡ word_of self }
-        ensures decodes { decoded result ≡ Ok self }
+    // Of kind 5: the side in bit 16, a 1 is right.
+    fn side(self) -> Side
+        ensures { result ≡ side_from (flag_of 16 self.0) }
     {
-        match self {
-            Setting::Mode(mode) => (1 << 28) + u32::from(mode.number()),
+        if self.flag(16) {
+            Side::Right
+        } else {
+            Side::Left
+        }
+    }
+}
+
+// The setting of a word of each kind.
+impl Word {
+    // Kind 1: the mode in bits 4 to 0.
+    fn mode_setting(self) -> Result<Setting, Refusal>
+        requires { kind_of self.0 ≡ 1 }
+        ensures { result ≡ decoded self.0 }
+    {
+        if self.bits(27, 5) != 0 {
+            return Err(Refusal::UnusedBits);
+        }
+        let mode = Mode::try_from(self.bits(4, 0) as u8)?;
+        Ok(Setting::Mode(mode))
+    }
+
+    // Kind 2: the enable in bits 7 and 6, the complement flag in bit 5, the tick threshold in bits 4 to 0.
+    fn tick_setting(self) -> Result<Setting, Refusal>
+        requires { kind_of self.0 ≡ 2 }
+        ensures { result ≡ decoded self.0 }
+    {
+        let fibre = self.fibre()?;
+        if self.bits(23, 8) != 0 {
+            return Err(Refusal::UnusedBits);
+        }
+        Ok(Setting::Tick {
+            fibre,
+            enable: self.enable(),
+            complement: self.flag(5),
+            threshold: TickThreshold {
+                value: self.bits(4, 0) as u8,
+            },
+        })
+    }
+
+    // Kind 3: the strip in bits 23 to 16, the valid flag in bit 10, the pedestal in bits 9 to 0.
+    fn pedestal_setting(self) -> Result<Setting, Refusal>
+        requires { kind_of self.0 ≡ 3 }
+        ensures { result ≡ decoded self.0 }
+    {
+        let fibre = self.fibre()?;
+        if self.bits(15, 11) != 0 {
+            return Err(Refusal::UnusedBits);
+        }
+        Ok(Setting::Pedestal {
+            fibre,
+            strip: self.strip(),
+            valid: self.flag(10),
+            pedestal: Pedestal {
+                value: self.bits(9, 0) as u16,
+            },
+        })
+    }
+
+    // Kind 4: the strip in bits 23 to 16, thresh2 in bits 15 to 8, thresh1 in bits 7 to 0.
+    fn thresholds_setting(self) -> Result<Setting, Refusal>
+        requires { kind_of self.0 ≡ 4 }
+        ensures { result ≡ decoded self.0 }
+    {
+        let fibre = self.fibre()?;
+        let thresholds = Thresholds::new(self.bits(7, 0) as u8, self.bits(15, 8) as u8)?;
+        Ok(Setting::Thresholds {
+            fibre,
+            strip: self.strip(),
+            thresholds,
+        })
+    }
+
+    // Kind 5: the side in bit 16, the rank setting in bits 7 to 0.
+    fn rank_setting(self) -> Result<Setting, Refusal>
+        requires { kind_of self.0 ≡ 5 }
+        ensures { result ≡ decoded self.0 }
+    {
+        let fibre = self.fibre()?;
+        if self.bits(23, 17) != 0 || self.bits(15, 8) != 0 {
+            return Err(Refusal::UnusedBits);
+        }
+        Ok(Setting::Rank {
+            fibre,
+            side: self.side(),
+            rank: self.bits(7, 0) as u8,
+        })
+    }
+}
+
+// The setting that a word stands for; else the refusal of the first question that is answered no.
+// A word that is taken is the word of the setting that it stands for.
+impl TryFrom<u32> for Setting {
+    ghost use Rattle.settings.specs.Words.{Decodes};
+
+    type Error = Refusal;
+
+    ghost try_from_gives = { Decodes };
+
+    fn try_from(word: u32) -> Result<Setting, Refusal> {
+        let word = Word(word);
+        match word.kind() {
+            1 => word.mode_setting(),
+            2 => word.tick_setting(),
+            3 => word.pedestal_setting(),
+            4 => word.thresholds_setting(),
+            5 => word.rank_setting(),
+            _ => Err(Refusal::UnknownSetting),
+        }
+    }
+}
+
+// The word of a setting, which stands for it.
+impl From<Setting> for u32 {
+    ghost use Rattle.settings.specs.Words.{Encodes};
+
+    ghost from_gives = { Encodes };
+
+    fn from(setting: Setting) -> u32 {
+        match setting {
+            Setting::Mode(mode) => (1 << 28) + u32::from(u8::from(mode)),
             Setting::Tick {
                 fibre,
                 enable,

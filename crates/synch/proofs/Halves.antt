@@ -1,22 +1,18 @@
 -- Twelve status words in two machine words of six.
 -- Assumes nothing.
-use Rattle.std.proofs.Common.{◌≡◌, ℕ, zero, suc, ◌+◌, ◌-◌, ◌*◌, ◌/◌, ◌%◌, ◌^◌, ◌<◌, ◌≤◌, Bool, true, false, List, ◌++◌, map, length, get_or, take, drop, sym, refl, ap, ◌∙◌, subst, ap₂, div-one, arith, length-drop}
+use Rattle.std.proofs.Common.{◌≡◌, ℕ, zero, suc, ◌+◌, ◌*◌, ◌/◌, ◌%◌, ◌^◌, ◌<◌, ◌≤◌, List, Bor, ◌++◌, map, length, get_or, take, drop, sym, refl, ap, ◌∙◌, subst, ap₂, div-one, arith, length-drop}
 use Rattle.std.proofs.lemmas.Nat.{shr-shr}
 use Rattle.std.proofs.lemmas.List.FromFn.{fill_by_all}
 use Rattle.std.proofs.lemmas.List.{map-append, take-append-drop, take_all, length-take-le}
 use Rattle.terms.specs.declared.pair.Side.TheVariants.{Left, Right}
 use Rattle.synch.specs.declared.standing.Standing.{Standing}
 use Rattle.synch.specs.Packed.{packed, digits}
-use Rattle.synch.specs.Vote.{one_if}
 use Rattle.synch.specs.Status.{status_word, header_equal, error_good, sixth}
 use Rattle.std.specs.List.{range_with_len}
-use Rattle.synch.proofs.Packed.{packed_again, packed_lt, packed_room, digits_packed}
+use Rattle.synch.proofs.Counts.{one_if_le}
+use Rattle.synch.proofs.Packed.{packed_lt, so_far, so_far_lt, digits_packed}
 
 -- six bits make a number below 64
-one_if_le : (b : Bool) → one_if b ≤ 1
-one_if_le true = omega arith
-one_if_le false = omega arith
-
 pub status_word_lt : (h : ℕ) (x : Standing) → status_word h x < 64
 status_word_lt h x =
     omega (
@@ -30,15 +26,11 @@ status_word_lt h x =
     )
 
 -- five words leave room for the sixth
-pub half_room : (h : ℕ) (xs : List Standing) (i v : ℕ) → length xs ≤ 6 → 0 < i → v ≡ packed 64 (status_word h) (drop i xs) → v < 1073741824
-half_room h xs i v l k p = packed_room 64 (status_word h) (omega arith) (status_word_lt h) 5 xs i v (omega arith) k p
+pub half_room : (h : ℕ) (ys : List (Bor Standing)) (v : ℕ) → length ys ≤ 5 → v ≡ so_far 64 (status_word h) ys → v < 1073741824
+half_room h ys v l p = so_far_lt 64 (status_word h) (omega arith) (status_word_lt h) 5 ys v l p
 
 pub half_lt : (h : ℕ) (xs : List Standing) (v : ℕ) → length xs ≤ 6 → v ≡ packed 64 (status_word h) xs → v < 68719476736
 half_lt h xs v l p = subst (λ (n : ℕ). n < 68719476736) (sym p) (packed_lt 64 (status_word h) (omega arith) (status_word_lt h) 6 xs l)
-
-pub half_again : (h : ℕ) (xs : List Standing) (i v b : ℕ) (d : Standing) → 0 < i → i ≤ length xs → v ≡ packed 64 (status_word h) (drop i xs)
-    → b ≡ status_word h (get_or xs (i - 1) d) → 64 * v + b ≡ packed 64 (status_word h) (drop (i - 1) xs)
-half_again h xs i v b d k l p q = packed_again 64 (status_word h) xs i v b d k l p q
 
 -- ---- the words of a half are its digits
 

@@ -8,6 +8,7 @@ use Rattle.std.specs.List.{AllZip, AllByRecursion}
 use Rattle.terms.specs.declared.pair.Side.{Side}
 use Rattle.terms.specs.declared.pair.Side.TheVariants.{Left, Right}
 use Rattle.terms.specs.Terms.{part}
+use Rattle.synch.specs.declared.bit.Bit.{Bit}
 use Rattle.synch.specs.declared.chips.Question.{Question}
 use Rattle.synch.specs.declared.chips.Question.TheVariants.{InStep, HeaderBit}
 use Rattle.synch.specs.declared.standing.Standing.{Standing}
@@ -61,36 +62,36 @@ bit_test n = at (eqb (n % 2) 1) refl
     at true q = sym (eqb-true (n % 2) 1 q)
     at false q = omega (arith, eqb-false (n % 2) 1 q)
 
-agreed_bit : (xs : List Standing) (h b : ℕ) → Agree h xs → 0 < count InStep xs → header_bit xs b ≡ bit_of b h
+agreed_bit : (xs : List Standing) (h : ℕ) (b : Bit) → Agree h xs → 0 < count InStep xs → header_bit xs b ≡ bit_of b.place h
 agreed_bit xs h b agree some =
-    let t : Bool = eqb (bit_of b h) 1 in
+    let t : Bool = eqb (bit_of b.place h) 1 in
     ap (λ (n : ℕ). one_if (ltb (count InStep xs) (2 * n))) (count_kept (HeaderBit b) t xs each)
     ∙ ap one_if (all_or_none t (count InStep xs) some)
-    ∙ bit_test (h / 2 ^ b)
+    ∙ bit_test (h / 2 ^ b.place)
   where
-    each : AllByRecursion (λ x. (side : Side) → holds (HeaderBit b) x side ≡ (votes x side && eqb (bit_of b h) 1)) xs
+    each : AllByRecursion (λ x. (side : Side) → holds (HeaderBit b) x side ≡ (votes x side && eqb (bit_of b.place h) 1)) xs
     each =
         All-weaker (λ (x : Standing). (side : Side) → votes x side ≡ true → part x.header.bytes side ≡ h)
-        (λ (x : Standing). (side : Side) → holds (HeaderBit b) x side ≡ (votes x side && eqb (bit_of b h) 1))
+        (λ (x : Standing). (side : Side) → holds (HeaderBit b) x side ≡ (votes x side && eqb (bit_of b.place h) 1))
         (λ x k side.
-        both_equal (votes x side) (votes x side) (eqb (bit_of b (part x.header.bytes side)) 1) (eqb (bit_of b h) 1) refl
-        (λ v. ap (λ (n : ℕ). eqb (bit_of b n) 1) (k side v)))
+        both_equal (votes x side) (votes x side) (eqb (bit_of b.place (part x.header.bytes side)) 1) (eqb (bit_of b.place h) 1) refl
+        (λ v. ap (λ (n : ℕ). eqb (bit_of b.place n) 1) (k side v)))
         xs agree
 
 -- a byte is made of its bits
-byte_of_bits : (h : ℕ) → h < 256 → packed 2 (λ b. bit_of b h) bits ≡ h
+byte_of_bits : (h : ℕ) → h < 256 → packed 2 (λ b. bit_of b.place h) bits ≡ h
 byte_of_bits h k = omega arith
 
 pub agreed_header : AgreedHeader
 agreed_header xs h k agree some =
-    ap (λ (f : ℕ → ℕ). packed 2 f bits) (fun_ext (λ b. agreed_bit xs h b agree some)) ∙ byte_of_bits h k
+    ap (λ (f : Bit → ℕ). packed 2 f bits) (fun_ext (λ b. agreed_bit xs h b agree some)) ∙ byte_of_bits h k
 
 -- ---- voters alone
 
-same_answer : (b : ℕ) (x y : Standing) → SameVotes x y → (side : Side) → holds (HeaderBit b) x side ≡ holds (HeaderBit b) y side
+same_answer : (b : Bit) (x y : Standing) → SameVotes x y → (side : Side) → holds (HeaderBit b) x side ≡ holds (HeaderBit b) y side
 same_answer b x y s side =
-    both_equal (votes x side) (votes y side) (eqb (bit_of b (part x.header.bytes side)) 1) (eqb (bit_of b (part y.header.bytes side)) 1)
-    (s side).0 (λ v. ap (λ (n : ℕ). eqb (bit_of b n) 1) ((s side).1 v))
+    both_equal (votes x side) (votes y side) (eqb (bit_of b.place (part x.header.bytes side)) 1) (eqb (bit_of b.place (part y.header.bytes side)) 1)
+    (s side).0 (λ v. ap (λ (n : ℕ). eqb (bit_of b.place n) 1) ((s side).1 v))
 
 same_count : (q : Question) → ((x y : Standing) → SameVotes x y → (side : Side) → holds q x side ≡ holds q y side)
     → (xs ys : List Standing) → AllZip SameVotes xs ys → count q xs ≡ count q ys
@@ -104,7 +105,7 @@ same_count q h (x ∷ xs) (y ∷ ys) s =
 
 pub only_voters_count : OnlyVotersCount
 only_voters_count xs ys s =
-    ap (λ (f : ℕ → ℕ). packed 2 f bits) (fun_ext (λ b.
+    ap (λ (f : Bit → ℕ). packed 2 f bits) (fun_ext (λ b.
     ap₂ (λ (m n : ℕ). one_if (ltb m (2 * n)))
     (same_count InStep (λ x y k side. (k side).0) xs ys s)
     (same_count (HeaderBit b) (same_answer b) xs ys s)))

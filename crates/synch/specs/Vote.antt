@@ -1,9 +1,11 @@
 -- What twelve fibres say together: an event, and a header.
 -- Assumes nothing.
 use Rattle.std.specs.Prelude.{ℕ, ◌+◌, ◌*◌, ◌/◌, ◌%◌, ◌^◌, Bool, cond, ◌&&◌, List, [], ◌∷◌, ◌==◌, count_ones, nat_lt}
+use Rattle.std.proofs.Common.{lit<}
 use Rattle.terms.specs.declared.pair.Side.{Side}
 use Rattle.terms.specs.declared.pair.Side.TheVariants.{Left, Right}
 use Rattle.terms.specs.Terms.{enabled, part}
+use Rattle.synch.specs.declared.bit.Bit.{Bit}
 use Rattle.synch.specs.declared.chips.Question.{Question}
 use Rattle.synch.specs.declared.chips.Question.TheVariants.{InLock, InStep, HeaderBit}
 use Rattle.synch.specs.declared.standing.Standing.{Standing}
@@ -17,17 +19,11 @@ votes x side = x.in_step && enabled x.enable side
 abbrev pub bit_of : ℕ → ℕ → ℕ
 bit_of b n = n / 2 ^ b % 2
 
--- the header bit that a question is about
-abbrev pub asked_bit : Question → ℕ
-asked_bit InLock = 0
-asked_bit InStep = 0
-asked_bit (HeaderBit b) = b
-
 -- what a chip answers to a question
 abbrev pub holds : Question → Standing → Side → Bool
 holds InLock x side = x.in_lock && enabled x.enable side
 holds InStep x side = votes x side
-holds (HeaderBit b) x side = votes x side && bit_of b (part x.header.bytes side) == 1
+holds (HeaderBit b) x side = votes x side && bit_of b.place (part x.header.bytes side) == 1
 
 -- a yes as the number 1
 abbrev pub one_if : Bool → ℕ
@@ -57,12 +53,21 @@ abbrev pub event : List Standing → Bool
 event xs = nat_lt (count InLock xs) (2 * count InStep xs)
 
 -- a bit of the header is 1 if twice the voting chips that bring a 1 exceeds the voting chips
-abbrev pub header_bit : List Standing → ℕ → ℕ
+abbrev pub header_bit : List Standing → Bit → ℕ
 header_bit xs b = one_if (nat_lt (count InStep xs) (2 * count (HeaderBit b) xs))
 
 -- the bits of a byte, lowest first
-abbrev pub bits : List ℕ
-bits = 0 ∷ 1 ∷ 2 ∷ 3 ∷ 4 ∷ 5 ∷ 6 ∷ 7 ∷ []
+abbrev pub bits : List Bit
+bits =
+    record { place = 0; below = lit< tt }
+    ∷ record { place = 1; below = lit< tt }
+    ∷ record { place = 2; below = lit< tt }
+    ∷ record { place = 3; below = lit< tt }
+    ∷ record { place = 4; below = lit< tt }
+    ∷ record { place = 5; below = lit< tt }
+    ∷ record { place = 6; below = lit< tt }
+    ∷ record { place = 7; below = lit< tt }
+    ∷ []
 
 -- the header that the chips in step vote for
 abbrev pub majority_header : List Standing → ℕ

@@ -2,6 +2,7 @@
 // the status of each fibre.
 #![tactic(auto)]
 
+mod bit;
 mod chips;
 pub mod laws;
 pub mod majority;

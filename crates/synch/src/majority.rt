@@ -2,6 +2,7 @@
 ghost use Rattle.std.specs.Prelude.{◌≡◌};
 ghost use Rattle.synch.specs.Vote.{more_than_half, event, majority_header};
 
+use crate::bit::Bit;
 use crate::chips::{Question, chips};
 use crate::standing::Standing;
 
@@ -29,8 +30,9 @@ pub(crate) fn majority_header(fibres: &[Standing; 12]) -> u8
 {
     let voters = chips(fibres, Question::InStep);
     let mut header = 0;
-    for bit in (0..8).rev() {
-        header = 2 * header + majority(chips(fibres, Question::HeaderBit(bit)), voters) as u8;
+    for place in (0..8).rev() {
+        let votes = chips(fibres, Question::HeaderBit(Bit { place }));
+        header = 2 * header + u8::from(majority(votes, voters));
     }
     header
 }

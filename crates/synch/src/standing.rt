@@ -5,7 +5,9 @@ ghost use Rattle.synch.specs.Vote.{votes};
 use terms::{Enable, Side};
 use ticker::FrameHeader;
 
-// How a fibre stands after a step of its ticker.
+// How a fibre stands after a step of its ticker. Twelve of them go by as an array: its length is in its type,
+// and nothing else is known of it. Lock and step are flags, since the status word tells each, and the header
+// is the latest one, in step or not.
 #[derive(Clone, Copy)]
 pub struct Standing {
     pub enable: Enable,

@@ -39,15 +39,16 @@ pub(crate) fn status_words(fibres: &[Standing; 12], header: u8) -> StatusWords
     }
 }
 
-// The status words of at most six fibres, side by side.
+// The status words of at most six fibres, side by side. A loop for all packed words would take what it packs
+// as a closure, with three clauses about it; it is shorter written out.
 fn pack(fibres: &[Standing], header: u8) -> u64
     requires { length fibres.now ≤ 6 }
     ensures value { result ≡ packed 64 (status_word header) fibres.now }
     ensures bound { result < 68719476736 }
 {
     let mut word = 0;
-    for f in (0..fibres.len()).rev() {
-        word = 64 * word + status_word(&fibres[f], header) as u64;
+    for fibre in fibres.iter().rev() {
+        word = 64 * word + u64::from(status_word(fibre, header));
     }
     word
 }
@@ -58,12 +59,12 @@ fn pack(fibres: &[Standing], header: u8) -> u64
 fn status_word(fibre: &Standing, header: u8) -> u8
     ensures { result ≡ status_word header fibre.now }
 {
-    32 * fibre.in_lock as u8
-        + 16 * fibre.in_step as u8
-        + 8 * header_equal(fibre, Side::Left, header) as u8
-        + 4 * error_good(fibre, Side::Left) as u8
-        + 2 * header_equal(fibre, Side::Right, header) as u8
-        + error_good(fibre, Side::Right) as u8
+    32 * u8::from(fibre.in_lock)
+        + 16 * u8::from(fibre.in_step)
+        + 8 * u8::from(header_equal(fibre, Side::Left, header))
+        + 4 * u8::from(error_good(fibre, Side::Left))
+        + 2 * u8::from(header_equal(fibre, Side::Right, header))
+        + u8::from(error_good(fibre, Side::Right))
 }
 
 // Whether a chip votes and its header is the given one.

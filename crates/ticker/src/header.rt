@@ -6,7 +6,8 @@ use crate::due::{due, side_of};
 use crate::state::State;
 use terms::{Enable, Pair, Side};
 
-// The header bytes of a fibre's two chips, and whether their error bits are good.
+// The header bytes of a fibre's two chips, and whether their error bits are good: two pairs, since the vote
+// reads the bytes alone.
 #[derive(Clone, Copy)]
 pub struct FrameHeader {
     pub bytes: Pair<u8>,
@@ -35,5 +36,5 @@ impl FrameHeader {
 fn shift(byte: u8, level: bool) -> u8
     ensures { result ≡ shifted byte level }
 {
-    (byte << 1) + level as u8
+    (byte << 1) + u8::from(level)
 }

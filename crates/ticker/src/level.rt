@@ -6,5 +6,5 @@ ghost use Rattle.ticker.specs.Step.{is_one};
 pub fn level(sample: u16, threshold: u8) -> bool
     ensures { result ≡ is_one sample threshold }
 {
-    sample > 32 * threshold as u16
+    sample > 32 * u16::from(threshold)
 }

@@ -23,7 +23,7 @@ fn follow(enable: Enable, runs: &[u16]) -> Trace {
     for run in runs {
         for _ in 0..*run {
             let pulse = ticker.step(enable, level(sample, 16));
-            pulses = pulses.wrapping_add(pulse as u32);
+            pulses = pulses.wrapping_add(u32::from(pulse));
             digest = digest
                 .wrapping_mul(31)
                 .wrapping_add(code(ticker.state(), pulse));
@@ -38,6 +38,7 @@ fn follow(enable: Enable, runs: &[u16]) -> Trace {
     }
 }
 
+// The number that the other program gave to a state and a pulse; the recorded digests are of these numbers.
 fn code(state: State, pulse: bool) -> u32 {
     let (kind, position) = match state {
         State::Off => (0, 0),
@@ -47,7 +48,7 @@ fn code(state: State, pulse: bool) -> u32 {
         State::Check(p) => (4000, p),
         State::Frame(p) => (5000, p),
     };
-    kind + position as u32 + if pulse { 500 } else { 0 }
+    kind + u32::from(position) + if pulse { 500 } else { 0 }
 }
 
 #[test]

@@ -8,7 +8,7 @@ pub fn worked_examples_stand()
     ensures { WorkedExamples }
 {
     settings::laws::examples_stand();
-    let _ = synch::laws::examples_stand();
+    synch::laws::examples_stand();
     strips::laws::examples_stand();
     rules::examples_stand();
     let _ = layout::laws::worked_examples_stand();

@@ -21,7 +21,7 @@ impl<R: Rule + Drop, S: Store + Drop> Card<R, S> {
         if let Some(_) = self.core.capture {
             return Err(Refusal::CaptureRunning);
         }
-        let setting = Setting::decode(word)?;
+        let setting = Setting::try_from(word)?;
         self.core.apply(setting);
         Ok(())
     }

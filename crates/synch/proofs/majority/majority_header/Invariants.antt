@@ -3,5 +3,5 @@ use Rattle.synch.specs.Packed.{packed}
 use Rattle.synch.specs.Vote.{header_bit, bits}
 use Rattle.synch.proofs.majority.majority_header.Given as goal
 
-abbrev pub invariant-loop-bit : goal.invariant-loop-bit
-invariant-loop-bit l = l.header ≡ packed 2 (header_bit l.fibres) (drop l.bit bits)
+abbrev pub invariant-loop-place : goal.invariant-loop-place
+invariant-loop-place l = l.header ≡ packed 2 (header_bit l.fibres) (drop l.place bits)

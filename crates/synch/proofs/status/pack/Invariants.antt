@@ -1,7 +1,7 @@
-use Rattle.std.proofs.Common.{◌≡◌, drop}
-use Rattle.synch.specs.Packed.{packed}
+use Rattle.std.proofs.Common.{◌≡◌}
 use Rattle.synch.specs.Status.{status_word}
+use Rattle.synch.proofs.Packed.{so_far}
 use Rattle.synch.proofs.status.pack.Given as goal
 
-abbrev pub invariant-loop-f : goal.invariant-loop-f
-invariant-loop-f l = l.word ≡ packed 64 (status_word l.header) (drop l.f l.fibres)
+abbrev pub invariant-loop-fibre : goal.invariant-loop-fibre
+invariant-loop-fibre l = l.word ≡ so_far 64 (status_word l.header) l.yielded
