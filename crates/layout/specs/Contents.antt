@@ -10,7 +10,7 @@ use Rattle.layout.specs.Event.{Cluster, Content, suppressed, words}
 
 -- the runs, in strip order
 abbrev pub listed : Runs → List Run
-listed r = take r.count r.list
+listed r = r.list.items
 
 -- a run was put behind the others; or it is out of place there, comes back, and nothing has changed
 abbrev pub Pushed : Runs → Runs → Run → Result (Unit {0}) Run → Type 0

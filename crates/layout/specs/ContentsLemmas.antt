@@ -11,7 +11,7 @@ use Rattle.layout.specs.declared.kind.Kind.TheVariants as kinds
 use Rattle.layout.specs.Places.{spaced}
 use Rattle.layout.specs.Event.{Byte, run_of, ClusterBytes, ContentOk, cluster_bytes}
 use Rattle.layout.specs.Contents.{listed, cluster_on, clusters, suppressed_content, words_content}
-use Rattle.layout.specs.PlacesLemmas.{OnFibre, placed_parts, spaced_head, spaced_tail, on_fibre_all, taken, taken_most}
+use Rattle.layout.specs.PlacesLemmas.{OnFibre, placed_parts, spaced_head, spaced_tail, on_fibre_all, taken, taken_most, runs_most}
 use Rattle.layout.specs.LimitsLemmas.{at_most_all}
 use Rattle.layout.specs.Lengths.{clusters_length}
 
@@ -63,6 +63,9 @@ clusters_taken s = clusters_length (clusters s) ∙ ap taken (clusters_cover s)
 
 pub runs_taken : (s : Suppressed) → taken (listed s.runs) ≤ 260
 runs_taken s = taken_most (listed s.runs) s.runs.in_order (on_fibre_all (listed s.runs) s.runs.on_strips)
+
+pub runs_few : (s : Suppressed) → length (listed s.runs) ≤ 86
+runs_few s = runs_most (listed s.runs) s.runs.in_order (on_fibre_all (listed s.runs) s.runs.on_strips)
 
 -- a run of a content ends on the fibre
 pub run_ends_at : (s : Suppressed) (rs : List Run) (i : ℕ) (d : Run) → rs ≡ listed s.runs → i < length rs → (slice_index_or rs i d).address + (slice_index_or rs i d).strips ≤ 256

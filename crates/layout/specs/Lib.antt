@@ -1,5 +1,6 @@
 pub mod Places
 pub mod Event
+pub mod Codes
 pub mod Limits
 pub mod Contents
 pub mod Writing

@@ -1,8 +1,9 @@
 -- Where runs lie, in numbers: what the tests say, one more run at the end, and how much room runs take.
 use Rattle.std.specs.Prelude.{◌≡◌, ℕ, ◌+◌, ◌-◌, ◌*◌, ◌/◌, ◌%◌, ◌<◌, ◌≤◌, Bool, true, false, not, ◌&&◌, ◌||◌, leb, ◌⊎◌, List, [], ◌∷◌, ◌++◌, length, take, ◌≢◌, nat_eq, nat_le, nat_lt, slice_index_or, refl}
-use Rattle.std.proofs.Common.{ap, ◌∙◌, inl, inr, ⊎_elim, arith}
-use Rattle.std.specs.List.{AllByRecursion}
-use Rattle.std.proofs.lemmas.List.{take_more, length_push, length-take-le}
+use Rattle.std.proofs.Common.{sym, ap, ◌∙◌, inl, inr, ⊎_elim, arith}
+use Rattle.std.specs.List.{AllByRecursion, sum_by}
+use Rattle.std.proofs.lemmas.List.{take_more, take_all, length_push}
+use Rattle.std.proofs.lemmas.List.Recursion.{is_sum_by}
 use Rattle.std.proofs.lemmas.Bool.{and_parts, and_from, and_right, or_cases, leb-true, ltb-true, lt-ltb, eqb-false, not-true}
 use Rattle.layout.specs.declared.run.Run.{Run}
 use Rattle.layout.specs.Places.{placed, apart, spaced}
@@ -119,23 +120,25 @@ and_true : (a b : Bool) → b ≡ true → (a && b) ≡ a
 and_true true b e = e
 and_true false b e = refl
 
--- the first n runs of a row and one more behind them: what counts is where the last of them lies
+-- one more run behind others: what counts is where the last of them lies
 pub spaced_more :
-    (row : List Run) (n : ℕ) (d r : Run) →
-    0 < n →
-    n ≤ length row →
-    spaced (take n row) ≡ true →
+    (rs : List Run) (last r : Run) →
+    0 < length rs →
+    slice_index_or rs (length rs - 1) last ≡ last →
+    spaced rs ≡ true →
     placed r ≡ true →
-    spaced (take n row ++ r ∷ []) ≡ apart (slice_index_or row (n - 1) d) r
-spaced_more row n d r pos le e f =
-    let back : n - 1 + 1 ≡ n = omega arith in
-    let within : n - 1 < length row = omega arith in
-    let split : take n row ≡ take (n - 1) row ++ slice_index_or row (n - 1) d ∷ [] = rw back at (take_more row (n - 1) d within) in
-    let front : spaced (take (n - 1) row ++ slice_index_or row (n - 1) d ∷ []) ≡ true = rw split at e in
-    ap (λ rs. spaced (rs ++ r ∷ [])) split
-    ∙ spaced_push (take (n - 1) row) (slice_index_or row (n - 1) d) r
-    ∙ ap (λ b. b && (apart (slice_index_or row (n - 1) d) r && placed r)) front
-    ∙ and_true (apart (slice_index_or row (n - 1) d) r) (placed r) f
+    spaced (rs ++ r ∷ []) ≡ apart last r
+spaced_more rs last r some is e f =
+    let back : length rs - 1 + 1 ≡ length rs = omega arith in
+    let within : length rs - 1 < length rs = omega arith in
+    let front : List Run = take (length rs - 1) rs in
+    let split : rs ≡ front ++ last ∷ [] =
+    sym (take_all (length rs) rs (omega arith)) ∙ ap (λ n. take n rs) (sym back) ∙ take_more rs (length rs - 1) last within ∙ ap (λ q. front ++ q ∷ []) is in
+    let whole : spaced (front ++ last ∷ []) ≡ true = sym (ap spaced split) ∙ e in
+    ap (λ qs. spaced (qs ++ r ∷ [])) split
+    ∙ spaced_push front last r
+    ∙ ap (λ b. b && (apart last r && placed r)) whole
+    ∙ and_true (apart last r) (placed r) f
 
 -- ---- runs of a fibre
 pub on_fibre_all : (rs : List Run) → on_fibre rs ≡ true → AllByRecursion OnFibre rs
@@ -151,14 +154,11 @@ on_fibre_push (q ∷ rs) r e h =
     and_from (nat_lt q.address 256) (on_fibre (rs ++ r ∷ [])) p.0 (on_fibre_push rs r p.1 h)
 
 -- where one more run is spaced, fewer than 86 stand before it
-pub room_for_more :
-    (row : List Run) (n : ℕ) (r : Run) →
-    n ≤ length row →
-    on_fibre (take n row) ≡ true →
-    r.address < 256 →
-    spaced (take n row ++ r ∷ []) ≡ true →
-    n < 86
-room_for_more row n r le f h e =
-    let m = runs_most (take n row ++ r ∷ []) e (on_fibre_all (take n row ++ r ∷ []) (on_fibre_push (take n row) r f h)) in
-    let l = length_push (take n row) r in
-    let t = length-take-le n row le in omega arith
+pub room_for_more : (rs : List Run) (r : Run) → on_fibre rs ≡ true → r.address < 256 → spaced (rs ++ r ∷ []) ≡ true → length rs < 86
+room_for_more rs r f h e =
+    let m = runs_most (rs ++ r ∷ []) e (on_fibre_all (rs ++ r ∷ []) (on_fibre_push rs r f h)) in
+    let l = length_push rs r in omega arith
+
+-- what the runs take, added up
+pub taken_is_sum : (rs : List Run) → taken rs ≡ sum_by (λ r. 2 + r.strips) rs
+taken_is_sum = is_sum_by taken (λ r. 2 + r.strips) refl (λ _ _. refl)

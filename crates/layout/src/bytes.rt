@@ -8,6 +8,5 @@ pub(crate) fn write_word(out: &mut [u8], at: usize, number: u16)
     requires { at + 2 ≤ length out.old }
     ensures { out.new ≡ over out.old at (word number) }
 {
-    out[at] = (number % 256) as u8;
-    out[at + 1] = (number / 256) as u8;
+    out[at..at + 2].copy_from_slice(&number.to_le_bytes());
 }

@@ -11,7 +11,7 @@ pub mod suppressed;
 pub mod words;
 pub mod write;
 
-pub use kind::Kind;
+pub use kind::{Kind, UnknownCode};
 pub use record_kind::RecordKind;
 pub use record_kind::processed_raw::ProcessedRaw;
 pub use record_kind::virgin_raw::VirginRaw;

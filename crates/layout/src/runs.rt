@@ -1,9 +1,10 @@
 // Where the clusters of one fibre lie, in strip order.
-ghost use Rattle.std.specs.Prelude.{◌≡◌, ℕ, ◌≤◌, true, length, take};
+ghost use Rattle.std.specs.Prelude.{◌≡◌, true};
 ghost use Rattle.layout.specs.Places.{spaced};
 ghost use Rattle.layout.specs.Limits.{on_fibre};
 
 use crate::run::Run;
+use arrayvec::ArrayVec;
 
 mod calls;
 
@@ -12,10 +13,7 @@ pub const MOST: usize = 86;
 
 #[derive(Drop)]
 pub struct Runs {
-    list: [Run; MOST],
-    count: usize,
-    ghost long: { length list ≡ 86 },
-    ghost few: { count ≤ 86 },
-    ghost in_order: { spaced (take count list) ≡ true },
-    ghost on_strips: { on_fibre (take count list) ≡ true },
+    list: ArrayVec<Run, MOST>,
+    ghost in_order: { spaced list.items ≡ true },
+    ghost on_strips: { on_fibre list.items ≡ true },
 }

@@ -1,4 +1,4 @@
-// The content of a zero-suppressed record.
+// The content of a zero-suppressed record. It owns its values, since a RecordKind's Content has no lifetime to lend by.
 ghost use Rattle.std.specs.Prelude.{◌≡◌, ℕ, ◌≤◌, true, length};
 ghost use Rattle.layout.specs.Limits.{at_most};
 

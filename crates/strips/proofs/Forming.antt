@@ -1,6 +1,7 @@
 -- How a fibre's record comes out of its values, step by step.
 -- Assumes nothing.
-use Rattle.std.proofs.Common.{◌≡◌, ℕ, ◌+◌, ◌*◌, ◌<◌, ◌≤◌, Bool, true, false, ◌&&◌, leb, List, [], ◌∷◌, map, length, get_or, set, Result, sym, refl, ap, ◌∙◌, subst, arith}
+use Rattle.std.proofs.Common.{◌≡◌, ℕ, ◌+◌, ◌*◌, ◌<◌, ◌≤◌, Bool, true, false, ◌&&◌, leb, Option, Some, None, List, [], ◌∷◌, map, length, get_or, set, Result, sym, refl, ap, ◌∙◌, subst, arith}
+use Rattle.std.specs.Option.{MatchOption, IsSome}
 use Rattle.std.specs.List.{range_with_len, AllByRecursion}
 use Rattle.std.proofs.lemmas.List.FromFn.{get_or-map-range_with_len, fill_by_all}
 use Rattle.std.proofs.lemmas.List.{get_or-map, length-map}
@@ -24,7 +25,7 @@ use Rattle.clusters.specs.declared.reached.Reached.{Reached}
 use Rattle.clusters.specs.Clusters.{cluster_runs}
 use Rattle.strips.specs.declared.sample.Sample.{Sample}
 use Rattle.strips.specs.Values.{reduced, reaches}
-use Rattle.strips.specs.Fibre.{strips, side_of, counts, numbers, flat_value, counted_strips, estimated, common_mode, common_modes, reduced_value, reached_by, suppressed_by, kind_in, content_in, fibre_record}
+use Rattle.strips.specs.Fibre.{strips, side_of, counts, numbers, flat_value, counted_strips, estimated, mode_of_flats, common_mode, common_modes, reduced_value, reduced_values, reached_by, all_reached, suppressed_by, kind_in, content_in, fibre_record}
 use Rattle.strips.proofs.Rows.{all_of_map, all_counting, all_at, all_kept, same_map}
 use Rattle.strips.proofs.FormedRecords.{flat_value_most}
 
@@ -35,13 +36,24 @@ numbers_fit samples = all_of_map TenBits (λ x. x.value) (λ x. x.ten_bits) samp
 pub flats_fit : (fibre : FibreSettings) (samples : List Sample) → AllByRecursion TenBits (map (flat_value fibre (numbers samples)) strips)
 flats_fit fibre samples = all_of_map TenBits (flat_value fibre (numbers samples)) (flat_value_most fibre (numbers samples) (numbers_fit samples)) strips
 
--- so words of them are never turned down
-pub never_above : (xs : List ℕ) → AllByRecursion TenBits xs → at_most 1023 xs ≡ false → ⊥
-never_above xs fit e =
-    let z : true ≡ false = sym (at_most_from 1023 xs (λ k. all_at TenBits xs k fit (omega arith))) ∙ e in
-    let one : Bool → ℕ = λ b. elim b [ true ↦ 1 | false ↦ 0 ] in
-    let contradiction : ◌≡◌ {A = ℕ} 1 0 = ap one z in
-    omega arith
+-- as a test of all of them
+all_most : (xs : List ℕ) → AllByRecursion TenBits xs → at_most 1023 xs ≡ true
+all_most xs fit = at_most_from 1023 xs (λ k. all_at TenBits xs k fit (omega arith))
+
+pub numbers_most : (samples : List Sample) → at_most 1023 (numbers samples) ≡ true
+numbers_most samples = all_most (numbers samples) (numbers_fit samples)
+
+pub flats_most : (fibre : FibreSettings) (samples : List Sample) → at_most 1023 (map (flat_value fibre (numbers samples)) strips) ≡ true
+flats_most fibre samples = all_most (map (flat_value fibre (numbers samples)) strips) (flats_fit fibre samples)
+
+-- what passes a test is never turned down
+pub taken : {X : Type 0} (r : Option X) (test : Bool) (P : X → Type 0) → MatchOption r (test ≡ false) P → test ≡ true → IsSome r
+taken None test P m e = sym m ∙ e
+taken (Some x) test P m e = refl
+
+-- and is as it says
+pub taken_is : {X : Type 0} (r : Option X) (x : X) (test : Bool) (P : X → Type 0) → MatchOption r (test ≡ false) P → r ≡ Some x → P x
+taken_is r x test P m e = subst (λ o. MatchOption o (test ≡ false) P) e m
 
 -- one more value of a row that is filled strip by strip
 pub fill_more : {X : Type 0} (f : ℕ → X) (xs : List X) (i : ℕ) (d v : X) → v ≡ f i → i < length xs → ((k : ℕ) → k < i → get_or xs k d ≡ f k)
@@ -69,6 +81,12 @@ reached_is fibre s b v w one two eb ev e1 e2 =
     e2 ∙ (ap (λ (x : Bool). reaches x (get_or fibre.thresh2 s 0) v) eb ∙ ap (reaches (counts fibre s) (get_or fibre.thresh2 s 0)) ev)
     in
     cc
+
+-- what strips reach with values of their own
+pub reached_of : (fibre : FibreSettings) (f : ℕ → ℕ) → all_reached fibre (map f strips) ≡ map (λ s. reached_by fibre (f s) s) strips
+reached_of fibre f =
+    same_map (λ s. reached_by fibre (get_or (map f strips) s 0) s) (λ s. reached_by fibre (f s) s) 0 256
+    (λ k low high. ap (λ (v : ℕ). reached_by fibre v k) (get_or-map-range_with_len f 0 256 k k 0 (omega arith) (omega arith)))
 
 pair_is : (m : Pair ℕ) (l r : ℕ) → m.left ≡ l → m.right ≡ r → m ≡ record { left = l; right = r }
 pair_is m l r e f =
@@ -113,45 +131,37 @@ module _ (fibre : FibreSettings) (samples flats : List ℕ) (is : flats ≡ map 
   unfolding common_mode
   mode_is meaning f mode side e = e ∙ ap (estimated (meaning (chip_number f side) (part fibre.ranks side))) (counted_flats side)
 
-  values_are : (m : Pair ℕ) → map (λ s. reduced (counts fibre s) (part m (side_of s)) (get_or flats s 0)) strips ≡ map (reduced_value fibre m samples) strips
+  values_are : (m : Pair ℕ) → reduced_values fibre m flats ≡ map (reduced_value fibre m samples) strips
   values_are m =
       same_map (λ s. reduced (counts fibre s) (part m (side_of s)) (get_or flats s 0)) (reduced_value fibre m samples) 0 256
       (λ k low high. ap (reduced (counts fibre k) (part m (side_of k))) (flat_at k (omega arith)))
 
-  reached_are : (m : Pair ℕ)
-      → map (λ s. reached_by fibre (reduced (counts fibre s) (part m (side_of s)) (get_or flats s 0)) s) strips
-      ≡ map (λ s. reached_by fibre (reduced_value fibre m samples s) s) strips
-  reached_are m =
-      same_map (λ s. reached_by fibre (reduced (counts fibre s) (part m (side_of s)) (get_or flats s 0)) s)
-      (λ s. reached_by fibre (reduced_value fibre m samples s) s) 0 256
-      (λ k low high. ap (λ (v : ℕ). reached_by fibre (reduced (counts fibre k) (part m (side_of k)) v) k) (flat_at k (omega arith)))
-
   -- common modes and clusters, as the definition has them
   pub formed : (meaning : Meaning) (f : ℕ) (m : Pair ℕ) (values : List ℕ) (reached : List Reached) (runs : List Run) (content : Content)
-      → m.left ≡ estimated (meaning (chip_number f Left) (part fibre.ranks Left)) (map (λ s. get_or flats s 0) (counted_strips fibre Left))
-      → m.right ≡ estimated (meaning (chip_number f Right) (part fibre.ranks Right)) (map (λ s. get_or flats s 0) (counted_strips fibre Right))
-      → values ≡ map (λ s. reduced (counts fibre s) (part m (side_of s)) (get_or flats s 0)) strips
-      → reached ≡ map (λ s. reached_by fibre (reduced (counts fibre s) (part m (side_of s)) (get_or flats s 0)) s) strips
+      → m.left ≡ mode_of_flats meaning f fibre flats Left
+      → m.right ≡ mode_of_flats meaning f fibre flats Right
+      → values ≡ reduced_values fibre m flats
+      → reached ≡ all_reached fibre values
       → runs ≡ cluster_runs reached
       → content ≡ suppressed m (map (cluster_on values) runs)
       → content ≡ suppressed_by fibre (common_modes meaning f fibre samples) samples
   unfolding suppressed_by
   formed meaning f m values reached runs content left right vs rs found is_content =
       let values_then = vs ∙ values_are m in
-      let ReachedThen = rs ∙ reached_are m in
+      let reached_then = rs ∙ ap (all_reached fibre) values_then ∙ reached_of fibre (reduced_value fibre m samples) in
       let l = mode_is meaning f m.left Left left in
       let r = mode_is meaning f m.right Right right in
       let modes = pair_is m (common_mode meaning f fibre samples Left) (common_mode meaning f fibre samples Right) l r in
       let here : content ≡ suppressed_by fibre m samples =
       is_content
       ∙ (ap (λ (xs : List ℕ). suppressed m (map (cluster_on xs) runs)) values_then
-      ∙ ap (λ (xs : List Run). suppressed m (map (cluster_on (map (reduced_value fibre m samples) strips)) xs)) (found ∙ ap cluster_runs ReachedThen))
+      ∙ ap (λ (xs : List Run). suppressed m (map (cluster_on (map (reduced_value fibre m samples) strips)) xs)) (found ∙ ap cluster_runs reached_then))
       in
       here ∙ ap (λ (p : Pair ℕ). suppressed_by fibre p samples) modes
 
--- common modes that fit are never turned down
-pub both_fit : (l r : ℕ) → l ≤ 1023 → r ≤ 1023 → (leb l 1023 && leb r 1023) ≡ false → ⊥
-both_fit l r h k e = grind (arith, nat_tests)
+-- common modes that fit pass the test of both
+pub both_fit : (l r : ℕ) → l ≤ 1023 → r ≤ 1023 → (leb l 1023 && leb r 1023) ≡ true
+both_fit l r h k = grind (arith, nat_tests)
 
 -- a record written of a content is the fibre's record where the content is the fibre's
 pub written_as : (meaning : Meaning) (f : ℕ) (fibre : FibreSettings) (mode mode' : Mode) (samples : List ℕ) (content : Content) (before after : List ℕ) (r : Result ℕ Refusal)

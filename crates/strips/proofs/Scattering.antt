@@ -1,6 +1,6 @@
 -- A row that is filled in the order of the places, each value at its strip.
 -- Assumes nothing.
-use Rattle.std.proofs.Common.{◌≡◌, ℕ, ◌+◌, ◌<◌, ◌≢◌, List, map, length, get_or, set, sym, ap, ◌∙◌, subst, arith, get_or-set_other, get_or-set_same, below_more}
+use Rattle.std.proofs.Common.{◌≡◌, ℕ, ◌+◌, ◌<◌, ◌≤◌, ◌≢◌, List, map, length, get_or, set, sym, ap, ◌∙◌, subst, arith, get_or-set_other, get_or-set_same, below_more}
 use Rattle.std.specs.List.{range_with_len}
 use Rattle.std.proofs.lemmas.List.FromFn.{fill_by_all}
 use Rattle.std.proofs.lemmas.List.{get_or-map}
@@ -30,12 +30,13 @@ filled_more f row p strip v long h at e filled =
     (let lt : strip_at p < length row = subst (λ (n : ℕ). strip_at p < n) (sym long) (one_to_one.strip_below p h) in
     rw get_or-set_same e))
 
-pub filled_all : (f : ℕ → ℕ) (row : List ℕ) → length row ≡ 256 → Filled f row 256 → row ≡ map f (range_with_len 0 256)
-filled_all f row long filled =
+pub filled_all : (f : ℕ → ℕ) (row : List ℕ) (p : ℕ) → length row ≡ 256 → 256 ≤ p → Filled f row p → row ≡ map f (range_with_len 0 256)
+filled_all f row p long past filled =
     fill_by_all f row 256 0 long
     (λ s h.
+    let below = one_to_one.place_below s h in
     subst (λ (t : ℕ). get_or row t 0 ≡ f t) (one_to_one.back_and_there s h)
-    (filled (place_of s) (one_to_one.place_below s h)))
+    (filled (place_of s) (omega arith)))
 
 -- the flat value at the strip of a place is that of the place's sample
 pub flat_at_place : (fibre : FibreSettings) (samples : List Sample) (p strip v : ℕ) (d : Sample) → p < 256 → p < length samples → strip ≡ strip_at p

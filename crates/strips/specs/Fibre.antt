@@ -44,6 +44,10 @@ level fibre samples s = turned fibre.complement (slice_index samples (place_of s
 abbrev pub flat_value : FibreSettings → List ℕ → ℕ → ℕ
 flat_value fibre samples s = flat (slice_index fibre.pedestals s) (level fibre samples s)
 
+-- the flat values of all strips
+abbrev pub flat_values : FibreSettings → List ℕ → List ℕ
+flat_values fibre samples = map (flat_value fibre samples) strips
+
 -- the strips of a chip that count
 unfoldable pub counted_strips : FibreSettings → Side → List ℕ
 counted_strips fibre side = filter (counts fibre) (range_with_len (128 * side_number side) 128)
@@ -63,6 +67,15 @@ abbrev pub common_modes : Meaning → ℕ → FibreSettings → List ℕ → Pai
 common_modes meaning f fibre samples =
     record { left = common_mode meaning f fibre samples Left; right = common_mode meaning f fibre samples Right }
 
+-- the values of a chip's strips that count, out of those of all strips
+abbrev pub counted_values : FibreSettings → Side → List ℕ → List ℕ
+counted_values fibre side values = map (λ s. slice_index values s) (counted_strips fibre side)
+
+-- the common mode of a chip, out of the flat values of all strips
+abbrev pub mode_of_flats : Meaning → ℕ → FibreSettings → List ℕ → Side → ℕ
+mode_of_flats meaning f fibre flats side =
+    estimated (meaning (chip_number f side) (part fibre.ranks side)) (counted_values fibre side flats)
+
 -- the reduced value of a strip beside the common modes of the fibre
 abbrev pub reduced_value : FibreSettings → Pair ℕ → List ℕ → ℕ → ℕ
 reduced_value fibre m samples s = reduced (counts fibre s) (part m (side_of s)) (flat_value fibre samples s)
@@ -75,12 +88,24 @@ reached_by fibre value s =
       thresh2 = reaches (counts fibre s) (slice_index fibre.thresh2 s) value;
     }
 
+-- the reduced values of all strips, out of their flat values
+abbrev pub reduced_values : FibreSettings → Pair ℕ → List ℕ → List ℕ
+reduced_values fibre m flats = map (λ s. reduced (counts fibre s) (part m (side_of s)) (slice_index flats s)) strips
+
+-- the thresholds that all strips reach with their reduced values
+abbrev pub all_reached : FibreSettings → List ℕ → List Reached
+all_reached fibre values = map (λ s. reached_by fibre (slice_index values s) s) strips
+
 -- the content of a zero-suppressed record beside the common modes: these, and the clusters with their reduced values
 unfoldable pub suppressed_by : FibreSettings → Pair ℕ → List ℕ → Content
 suppressed_by fibre m samples =
     suppressed m
     (map (cluster_on (map (reduced_value fibre m samples) strips))
     (cluster_runs (map (λ s. reached_by fibre (reduced_value fibre m samples s) s) strips)))
+
+-- the content of a zero-suppressed record
+abbrev pub suppressed_of : Meaning → ℕ → FibreSettings → List ℕ → Content
+suppressed_of meaning f fibre samples = suppressed_by fibre (common_modes meaning f fibre samples) samples
 
 -- the kind of record that a mode asks for
 abbrev pub kind_in : Mode → Kind
@@ -90,8 +115,8 @@ kind_in modes.VirginRaw = kinds.VirginRaw
 
 -- the content of a fibre's record: common modes and clusters; or the flat values in strip order; or the samples in place order
 abbrev pub content_in : Meaning → ℕ → FibreSettings → Mode → List ℕ → Content
-content_in meaning f fibre modes.ZeroSuppression samples = suppressed_by fibre (common_modes meaning f fibre samples) samples
-content_in meaning f fibre modes.ProcessedRaw samples = words (map (flat_value fibre samples) strips)
+content_in meaning f fibre modes.ZeroSuppression samples = suppressed_of meaning f fibre samples
+content_in meaning f fibre modes.ProcessedRaw samples = words (flat_values fibre samples)
 content_in meaning f fibre modes.VirginRaw samples = words samples
 
 -- the record of a fibre

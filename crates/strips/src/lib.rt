@@ -1,6 +1,7 @@
 // From the captured samples of a fibre to its record.
 #![tactic(auto)]
 
+mod chip;
 mod common_mode;
 mod flat;
 pub mod laws;

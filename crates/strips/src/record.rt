@@ -1,9 +1,9 @@
 // The record of a fibre, formed of its captured samples and written into a buffer.
-ghost use Rattle.std.specs.Prelude.{◌≡◌, ℕ, map};
+ghost use Rattle.std.specs.Prelude.{◌≡◌, ℕ};
 ghost use Rattle.layout.specs.Event.{words};
 ghost use Rattle.layout.specs.Contents.{suppressed_content, words_content};
 ghost use Rattle.layout.specs.Writing.{Written};
-ghost use Rattle.strips.specs.Fibre.{strips, numbers, flat_value, common_modes, suppressed_by, fibre_record};
+ghost use Rattle.strips.specs.Fibre.{numbers, flat_values, suppressed_of, fibre_record};
 
 use crate::common_mode::common_modes;
 use crate::flat::flat_values;
@@ -36,35 +36,31 @@ pub fn write_fibre<R: Rule>(
     }
 }
 
-// Common modes and clusters.
+// Common modes and clusters. Rule, fibre and settings are those of the call: a struct of the three would be made
+// only to be taken apart.
 fn suppress<R: Rule>(
     rule: &R,
     fibre: Fibre,
     settings: &FibreSettings,
     samples: &[Sample; STRIPS],
 ) -> Suppressed
-    ensures { suppressed_content result ≡ suppressed_by settings.now (common_modes (R.Rule.meaning rule.now) fibre.index settings.now (numbers samples.now)) (numbers samples.now) }
+    ensures { suppressed_content result ≡ suppressed_of (R.Rule.meaning rule.now) fibre.index settings.now (numbers samples.now) }
 {
     let flats = flat_values(settings, samples);
     let modes = common_modes(rule, fibre, settings, &flats);
     let reduced = reduce(settings, modes, &flats);
-    match Suppressed::new(modes, reduced.values, find_clusters(&reduced.reached)) {
-        Some(content) => content,
-        None => unreachable(),
-    }
+    let runs = find_clusters(&reduced.reached);
+    Suppressed::new(modes, reduced.values, runs).unwrap()
 }
 
 // The flat values of all strips, in strip order.
 fn flat_words(settings: &FibreSettings, samples: &[Sample; STRIPS]) -> Words
-    ensures { words_content result ≡ words (map (flat_value settings.now (numbers samples.now)) strips) }
+    ensures { words_content result ≡ words (flat_values settings.now (numbers samples.now)) }
 {
-    match Words::new(flat_values(settings, samples)) {
-        Some(words) => words,
-        None => unreachable(),
-    }
+    Words::new(flat_values(settings, samples).values).unwrap()
 }
 
-// The samples as they came, in place order.
+// The samples as they came, in place order. Filled place by place: samples.map(..) takes twice as long for the record.
 fn sample_words(samples: &[Sample; STRIPS]) -> Words
     ensures { words_content result ≡ words (numbers samples.now) }
 {
@@ -72,8 +68,5 @@ fn sample_words(samples: &[Sample; STRIPS]) -> Words
     for (place, sample) in samples.iter().enumerate() {
         list[place] = sample.value();
     }
-    match Words::new(list) {
-        Some(words) => words,
-        None => unreachable(),
-    }
+    Words::new(list).unwrap()
 }

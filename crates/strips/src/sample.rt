@@ -11,7 +11,7 @@ pub struct Sample {
 }
 
 impl Sample {
-    // The sample of a number, where that has ten bits.
+    // The sample of a number, where that has ten bits. As NonZero::new: an error would tell no more than None.
     pub fn new(value: u16) -> Option<Sample>
         ensures { MatchOption result (1023 < value) (λ s. s.value ≡ value) }
     {

@@ -11,6 +11,6 @@ pub fn worked_examples_stand()
     synch::laws::examples_stand();
     strips::laws::examples_stand();
     rules::examples_stand();
-    let _ = layout::laws::worked_examples_stand();
+    layout::laws::worked_examples_stand();
     reader::laws::worked_examples_stand();
 }

@@ -1,4 +1,4 @@
-// E6: the samples as they came.
+// E6: the samples as they came. Each kind is a type of its own with its code, so it repeats what F2 writes of its words.
 ghost use Rattle.layout.specs.declared.kind.Kind.TheVariants as kinds;
 ghost use Rattle.layout.specs.Contents.{words_content};
 ghost use Rattle.layout.specs.ContentsLemmas.{virgin_ok};

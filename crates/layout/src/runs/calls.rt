@@ -3,8 +3,9 @@ ghost use Rattle.std.specs.Prelude.{◌≡◌, ℕ, List, [], ◌∷◌, ◌++�
 ghost use Rattle.layout.specs.Places.{spaced};
 ghost use Rattle.layout.specs.Contents.{listed, Pushed};
 
-use super::{MOST, Runs};
+use super::Runs;
 use crate::run::Run;
+use arrayvec::ArrayVec;
 
 impl Runs {
     // No runs yet.
@@ -12,11 +13,7 @@ impl Runs {
         ensures { listed result ≡ [] }
     {
         Runs {
-            list: [Run {
-                address: 0,
-                strips: 0,
-            }; MOST],
-            count: 0,
+            list: ArrayVec::new(),
         }
     }
 
@@ -27,8 +24,7 @@ impl Runs {
         if !self.has_room_for(run) {
             return Err(run);
         }
-        self.list[self.count] = run;
-        self.count += 1;
+        self.list.push(run);
         Ok(())
     }
 
@@ -36,20 +32,24 @@ impl Runs {
     fn has_room_for(&self, run: Run) -> bool
         ensures { result ≡ spaced (listed self.now ++ run ∷ []) }
     {
-        run.lies_in_chip() && (self.count == 0 || run.lies_behind(self.list[self.count - 1]))
+        run.lies_in_chip()
+            && match self.as_slice().last() {
+                Some(last) => run.lies_behind(*last),
+                None => true,
+            }
     }
 
     // How many runs there are.
     pub fn len(&self) -> usize
         ensures { result ≡ length (listed self.now) }
     {
-        self.as_slice().len()
+        self.list.len()
     }
 
     // The runs, in strip order.
     pub fn as_slice(&self) -> &[Run]
         ensures { result.now ≡ listed self.now }
     {
-        &self.list[0..self.count]
+        self.list.as_slice()
     }
 }

@@ -1,6 +1,6 @@
 // The bytes of a zero-suppressed record's content.
 ghost use Rattle.std.specs.Prelude.{◌≡◌, ℕ, ◌+◌, ◌≤◌, List, ◌++◌, map, length};
-ghost use Rattle.std.specs.List.{flat_map};
+ghost use Rattle.std.specs.List.{flat_map, sum_by};
 ghost use Rattle.layout.specs.Event.{word, cluster_bytes, modes_bytes, content_bytes};
 ghost use Rattle.layout.specs.Contents.{listed, cluster_on, clusters, suppressed_content};
 ghost use Rattle.layout.specs.Writing.{over, Written};
@@ -15,12 +15,7 @@ impl Suppressed {
     pub(crate) fn length(&self) -> usize
         ensures { result ≡ length (content_bytes (suppressed_content self.now)) }
     {
-        let runs = self.runs.as_slice();
-        let mut total = 4;
-        for run in runs {
-            total += 2 + usize::from(run.strips);
-        }
-        total
+        4 + run_bytes(self.runs.as_slice())
     }
 
     // Writes it to the front of a buffer: is it long enough? 11, naming the length.
@@ -36,7 +31,7 @@ impl Suppressed {
         Ok(length)
     }
 
-    // Writes the clusters one after the other, behind the common modes.
+    // Writes the clusters one after the other, behind the common modes: where one ends, the next begins.
     fn write_clusters(&self, out: &mut [u8])
         requires { 4 + length (flat_map cluster_bytes (clusters self.now)) ≤ length out.old }
         ensures { out.new ≡ over out.old 4 (flat_map cluster_bytes (clusters self.now)) }
@@ -47,6 +42,14 @@ impl Suppressed {
             at = write_cluster(out, at, *run, &self.values);
         }
     }
+}
+
+// How many bytes clusters on these runs take: two each, and one a strip.
+fn run_bytes(runs: &[Run]) -> usize
+    requires { length runs.now ≤ 86 }
+    ensures { result ≡ sum_by (λ run. 2 + run.strips) runs.now }
+{
+    runs.iter().map(|run| 2 + usize::from(run.strips)).sum()
 }
 
 // Writes both common modes, the left chip's first.
@@ -60,8 +63,10 @@ fn write_modes(out: &mut [u8], modes: Pair<u16>)
 
 // Writes one cluster from a place on, out of the values of all strips; the place behind it.
 fn write_cluster(out: &mut [u8], at: usize, run: Run, values: &[u8; STRIPS]) -> usize
-    requires { (run.address + run.strips ≤ 256) × (at + 2 + run.strips ≤ length out.old) }
-    ensures { (result ≡ at + 2 + run.strips) × (out.new ≡ over out.old at (cluster_bytes (cluster_on values.now run))) }
+    requires on_fibre { run.address + run.strips ≤ 256 }
+    requires room { at + 2 + run.strips ≤ length out.old }
+    ensures behind { result ≡ at + 2 + run.strips }
+    ensures written { out.new ≡ over out.old at (cluster_bytes (cluster_on values.now run)) }
 {
     let first = usize::from(run.address);
     let behind = first + usize::from(run.strips);

@@ -29,6 +29,7 @@ impl Words {
         Ok(length)
     }
 
+    // Writes one after the other, by index: of what chunks_exact_mut lends, a proof knows only the length afterwards.
     fn write_all(&self, out: &mut [u8])
         requires { length (flat_map word self.now.list) ≤ length out.old }
         ensures { out.new ≡ over out.old 0 (flat_map word self.now.list) }

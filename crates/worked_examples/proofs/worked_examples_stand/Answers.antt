@@ -7,6 +7,6 @@ returns c =
       pulses = c.examples_stand-2.ensures;
       strip_values = c.examples_stand-3.ensures;
       common_modes = c.examples_stand-4.ensures;
-      records_written = c.worked_examples_stand.ensures.examples;
+      records_written = c.worked_examples_stand.ensures;
       records_read = c.worked_examples_stand-2.ensures;
     }

@@ -1,5 +1,7 @@
-use Rattle.std.proofs.Common.{◌≡◌, ◌∙◌, arith, length-set}
+use Rattle.std.proofs.Common.{ap, ◌∙◌, arith, length-set}
 use Rattle.strips.specs.Fibre.{numbers, flat_value}
+use Rattle.layout.specs.Limits.{at_most}
+use Rattle.strips.proofs.Forming.{flats_most}
 use Rattle.strips.proofs.Scattering.{filled_more, filled_all, flat_at_place}
 use Rattle.strips.proofs.flat.flat_values.Goals as goal
 
@@ -14,8 +16,14 @@ loop-place-preserved c = (
       c.loop-place.invariant.1,
 )
 
+pub invariant_of-result : goal.invariant_of-result
+invariant_of-result c =
+    let fibre = c.args.settings.now in
+    let samples = c.args.samples.now in
+    let whole = filled_all (flat_value fibre (numbers samples)) c.loop-place.flats c.loop-place.place c.loop-place.invariant.0 (omega arith) c.loop-place.invariant.1 in
+    record { ten_bits = ap (at_most 1023) whole ∙ flats_most fibre samples }
+
 pub returns : goal.returns
 returns c =
-    let all : c.loop-place.place ≡ 256 = omega arith in
-    filled_all (flat_value c.args.settings.now (numbers c.args.samples.now)) c.loop-place.flats c.loop-place.invariant.0
-    (λ k h. c.loop-place.invariant.1 k (omega arith))
+    filled_all (flat_value c.args.settings.now (numbers c.args.samples.now)) c.loop-place.flats c.loop-place.place
+    c.loop-place.invariant.0 (omega arith) c.loop-place.invariant.1

@@ -1,8 +1,8 @@
-use Rattle.std.proofs.Common.{ℕ, List, get_or, sym, ap, ◌∙◌, subst, arith, length-set}
-use Rattle.std.specs.List.{AllByRecursion}
-use Rattle.layout.specs.Event.{words, TenBits}
+use Rattle.std.proofs.Common.{get_or, ap, ◌∙◌, arith, length-set}
+use Rattle.layout.specs.Event.{words}
+use Rattle.layout.specs.Limits.{at_most}
 use Rattle.strips.specs.Fibre.{numbers}
-use Rattle.strips.proofs.Forming.{numbers_fit, never_above, fill_more, number_at, numbers_are}
+use Rattle.strips.proofs.Forming.{numbers_most, taken, taken_is, fill_more, number_at, numbers_are}
 use Rattle.strips.proofs.record.sample_words.Goals as goal
 
 pub loop-place-preserved : goal.loop-place-preserved
@@ -13,12 +13,12 @@ loop-place-preserved c = (
       (omega (arith, c.loop-place.invariant.0)) c.loop-place.invariant.1,
 )
 
-pub unreachable-requires : goal.unreachable-requires
-unreachable-requires c =
+pub unwrap-requires : goal.unwrap-requires
+unwrap-requires c =
     let same = numbers_are c.args.samples.now c.loop-place.list c.told-samples c.loop-place.invariant.0 (λ k h. c.loop-place.invariant.1 k (omega arith)) in
-    never_above c.loop-place.list (subst (λ (xs : List ℕ). AllByRecursion TenBits xs) (sym same) (numbers_fit c.args.samples.now)) c.in-None.ensures
+    taken c.new.result _ _ c.new.ensures (ap (at_most 1023) same ∙ numbers_most c.args.samples.now)
 
 pub returns : goal.returns
 returns c =
     let same = numbers_are c.args.samples.now c.loop-place.list c.told-samples c.loop-place.invariant.0 (λ k h. c.loop-place.invariant.1 k (omega arith)) in
-    c.in-Some.ensures ∙ ap words same
+    taken_is _ c.unwrap.result _ _ c.new.ensures c.unwrap.ensures ∙ ap words same

@@ -9,7 +9,7 @@ use Rattle.strips.proofs.reduced.reduce.Given as goal
 abbrev pub invariant-loop-strip : goal.invariant-loop-strip
 invariant-loop-strip l =
     (length l.values ≡ 256) × (length l.reached ≡ 256)
-    × ((k : ℕ) → k < l.strip → get_or l.values k 0 ≡ reduced (counts l.settings k) (part l.modes (side_of k)) (get_or l.flats k 0))
+    × ((k : ℕ) → k < l.strip → get_or l.values k 0 ≡ reduced (counts l.settings k) (part l.modes (side_of k)) (get_or l.flats.values k 0))
     × ((k : ℕ) → k < l.strip
     → get_or l.reached k nothing
-    ≡ reached_by l.settings (reduced (counts l.settings k) (part l.modes (side_of k)) (get_or l.flats k 0)) k)
+    ≡ reached_by l.settings (reduced (counts l.settings k) (part l.modes (side_of k)) (get_or l.flats.values k 0)) k)

@@ -1,30 +1,19 @@
-use Rattle.std.proofs.Common.{◌+◌, ◌^◌, ◌<◌, refl, ap, arith}
-use Rattle.std.proofs.lemmas.List.{drop_more, drop_all}
-use Rattle.layout.specs.PlacesLemmas.{taken}
-use Rattle.layout.specs.ContentsLemmas.{clusters_taken, runs_taken}
+use Rattle.std.proofs.Common.{◌≡◌, ◌+◌, ◌^◌, ◌<◌, length, sym, ap, ◌∙◌, arith}
+use Rattle.layout.specs.PlacesLemmas.{taken, taken_is_sum}
+use Rattle.layout.specs.Contents.{listed}
+use Rattle.layout.specs.ContentsLemmas.{clusters_taken, runs_taken, runs_few}
 use Rattle.layout.proofs.suppressed.Suppressed.length.Goals as goal
 
-pub loop-run-init : goal.loop-run-init
-loop-run-init c = refl
+pub run_bytes-requires : goal.run_bytes-requires
+run_bytes-requires c = omega (arith, ap length c.as_slice.ensures, runs_few c.args.self.now)
 
-pub overflow_add-total-in-loop-run : goal.overflow_add-total-in-loop-run
-overflow_add-total-in-loop-run c =
-    let runs = c.as_slice-runs.result.now in
-    let next = ap taken (drop_more runs c.loop-run.run-index (record { address = 0; strips = 0 }) c.loop-run-test.true) in
-    let few = runs_taken c.args.self.now in
-    let same = ap taken c.as_slice-runs.ensures in
-    let sum : c.loop-run.total + (2 + c.from.result) < 2 ^ 64 = omega (arith, c.loop-run.invariant, c.from.ensures) in
-    record { fits = sum }
+all_taken : (c : goal.After-run_bytes) → c.run_bytes.result ≡ taken (listed c.args.self.now.runs)
+all_taken c = c.run_bytes.ensures ∙ sym (taken_is_sum c.as_slice.result.now) ∙ ap taken c.as_slice.ensures
 
-pub loop-run-preserved : goal.loop-run-preserved
-loop-run-preserved c =
-    let runs = c.as_slice-runs.result.now in
-    let next = ap taken (drop_more runs c.loop-run.run-index (record { address = 0; strips = 0 }) c.loop-run-test.true) in
-    omega (arith, c.loop-run.invariant, c.from.ensures)
+pub overflow_add-result : goal.overflow_add-result
+overflow_add-result c =
+    let sum' : 4 + c.run_bytes.result < 2 ^ 64 = omega (arith, all_taken c, runs_taken c.args.self.now) in
+    record { fits = sum' }
 
 pub returns : goal.returns
-returns c =
-    let runs = c.as_slice-runs.result.now in
-    let none = ap taken (drop_all c.loop-run.run-index runs c.loop-run-test.false) in
-    let same = ap taken c.as_slice-runs.ensures in
-    omega (arith, c.loop-run.invariant, clusters_taken c.args.self.now)
+returns c = omega (arith, all_taken c, clusters_taken c.args.self.now)

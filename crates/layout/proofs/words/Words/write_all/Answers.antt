@@ -1,11 +1,8 @@
-use Rattle.std.proofs.Common.{◌≡◌, ◌+◌, ◌*◌, ◌<◌, ◌≤◌, length, refl, arith}
+use Rattle.std.proofs.Common.{◌≡◌, ◌+◌, ◌*◌, ◌<◌, ◌≤◌, length, arith}
 use Rattle.layout.specs.Event.{word}
 use Rattle.layout.specs.Lengths.{words_length}
 use Rattle.layout.proofs.Writing.{parts_more, parts_all}
 use Rattle.layout.proofs.words.Words.write_all.Goals as goal
-
-pub loop-i-init : goal.loop-i-init
-loop-i-init c = refl
 
 pub write_word-requires : goal.write_word-requires
 write_word-requires c = omega (arith, words_length c.args.self.now.list)
