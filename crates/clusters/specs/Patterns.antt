@@ -1,7 +1,7 @@
 -- Which strips of a chip belong to a cluster.
 -- Assumes nothing.
-use Rattle.std.specs.Prelude.{ℕ, ◌+◌, Bool, true, false, ◌&&◌, ◌||◌, List, [], ◌∷◌, map, length, slice_index_or}
-use Rattle.std.specs.List.{range_with_len}
+use Rattle.std.specs.Prelude.{ℕ, ◌+◌, Bool, true, false, ◌&&◌, List, [], ◌∷◌, map, length, slice_index_or}
+use Rattle.std.specs.List.{list_any, range_with_len}
 use Rattle.clusters.specs.declared.pattern.Mark.{Mark}
 use Rattle.clusters.specs.declared.pattern.Mark.TheVariants.{Any, Thresh1, Thresh2}
 use Rattle.clusters.specs.declared.reached.Reached.{Reached}
@@ -28,8 +28,7 @@ row_fits (m ∷ ms) (s ∷ ss) = fits m s && row_fits ms ss
 
 -- some row fits
 abbrev pub some_fits : List (List Mark) → List Reached → Bool
-some_fits [] strips = false
-some_fits (row ∷ rows) strips = row_fits row strips || some_fits rows strips
+some_fits rows strips = list_any (λ row. row_fits row strips) rows
 
 -- the seven patterns for strips n−2 to n+2: XX2XX, X11XX, XX11X, X2X2X, 11X2X, X2X11, 11X11
 abbrev pub patterns : List (List Mark)

@@ -1,14 +1,17 @@
 // Finding the clusters of a fibre.
-ghost use Rattle.std.specs.Prelude.{◌≡◌, ℕ, ◌+◌, ◌≤◌, true, List, [], ◌++◌, length, slice_index_or};
+ghost use Rattle.std.specs.Prelude.{◌≡◌, ℕ, ◌+◌, ◌≤◌, true, List, [], ◌∷◌, ◌++◌, length};
 ghost use Rattle.layout.specs.Places.{spaced};
 ghost use Rattle.layout.specs.Contents.{listed};
 ghost use Rattle.clusters.specs.Patterns.{nothing};
 ghost use Rattle.clusters.specs.Clusters.{ended, chip_runs, cluster_runs};
 
 use crate::reached::{NOTHING, Reached};
-use crate::window::Window;
+use crate::window::belongs;
 use layout::{Run, Runs};
 use terms::{CHIP_STRIPS, STRIPS};
+
+// A chip's strips, and two beyond each of its ends.
+const PADDED: usize = CHIP_STRIPS + 4;
 
 // The clusters of a fibre, of the left chip and then of the right one, by what each strip reaches.
 pub fn find_clusters(reached: &[Reached; STRIPS]) -> Runs
@@ -27,11 +30,10 @@ fn find_on_chip(chip: &[Reached], first: usize, runs: &mut Runs)
     requires in_place { spaced (listed runs.old ++ chip_runs first chip.now) ≡ true }
     ensures { listed runs.new ≡ listed runs.old ++ chip_runs first chip.now }
 {
-    let mut window = Window::new(strip_at(chip, 0), strip_at(chip, 1));
+    let padded = padded(chip);
     let mut strips = 0;
-    for n in 0..CHIP_STRIPS {
-        window.advance(strip_at(chip, n + 2));
-        if window.belongs() {
+    for (n, window) in padded.array_windows::<5>().enumerate() {
+        if belongs(window) {
             strips += 1;
         } else {
             end_run(runs, first + n, strips);
@@ -41,16 +43,21 @@ fn find_on_chip(chip: &[Reached], first: usize, runs: &mut Runs)
     end_run(runs, first + CHIP_STRIPS, strips);
 }
 
-// What a strip of a chip reaches; beyond the chip's end nothing is reached.
-fn strip_at(chip: &[Reached], n: usize) -> Reached
-    ensures { result ≡ slice_index_or chip.now n nothing }
+// The strips of a chip between two on either side that reach nothing.
+fn padded(chip: &[Reached]) -> [Reached; PADDED]
+    requires { length chip.now ≡ 128 }
+    ensures { result ≡ nothing ∷ nothing ∷ chip.now ++ nothing ∷ nothing ∷ [] }
 {
-    if n < chip.len() { chip[n] } else { NOTHING }
+    let mut padded = [NOTHING; PADDED];
+    padded[2..2 + CHIP_STRIPS].copy_from_slice(chip);
+    padded
 }
 
 // Puts a run of so many strips, if it has any, behind the others: it ends before a strip.
 fn end_run(runs: &mut Runs, end: usize, strips: usize)
-    requires lengths { (strips ≤ 128) × ((strips ≤ end) × (end ≤ 256)) }
+    requires of_chip { strips ≤ 128 }
+    requires from_start { strips ≤ end }
+    requires on_fibre { end ≤ 256 }
     requires in_place { spaced (listed runs.old ++ ended end strips []) ≡ true }
     ensures { listed runs.new ≡ listed runs.old ++ ended end strips [] }
 {
@@ -61,8 +68,5 @@ fn end_run(runs: &mut Runs, end: usize, strips: usize)
         address: (end - strips) as u8,
         strips: strips as u8,
     };
-    match runs.push(run) {
-        Ok(()) => {}
-        Err(_) => unreachable(),
-    }
+    runs.push(run).unwrap();
 }

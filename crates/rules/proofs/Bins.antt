@@ -38,7 +38,7 @@ tallies_room : (counts ks : List ℕ) (k : ℕ) → k < 32 → Tallies counts ks
 tallies_room counts ks k within t few = omega (arith, t.each k within, count_by-le-length (λ j. eqb j k) ks)
 
 -- the counts of the first bins are the number of values below the next
-tallies_below : (counts ks : List ℕ) (b : ℕ) → b ≤ 32 → Tallies counts ks → sum (take b counts) ≡ below b ks
+pub tallies_below : (counts ks : List ℕ) (b : ℕ) → b ≤ 32 → Tallies counts ks → sum (take b counts) ≡ below b ks
 tallies_below counts ks zero h t = sym (below_zero ks)
 tallies_below counts ks (suc b) h t =
     let rest = tallies_below counts ks b (omega arith) t in
@@ -50,12 +50,11 @@ tallies_all : (counts ks : List ℕ) → Tallies counts ks → AllByRecursion (�
 tallies_all counts ks t all = tallies_below counts ks 32 (omega arith) t ∙ below_all 32 ks all
 
 -- the bin where the counts come to p has the position p among the bins taken
-pub tallies_find : (counts ks : List ℕ) (p b : ℕ) → b < 32 → Tallies counts ks → sum (take b counts) < p → p ≤ sum (take (b + 1) counts)
-    → HasPosition p b ks × (sum (take b counts) ≡ below b ks)
-tallies_find counts ks p b within t fewer enough =
-    let low = tallies_below counts ks b (omega arith) t in
-    let high = tallies_below counts ks (b + 1) (omega arith) t in
-    (record { fewer = omega (arith, low); enough = omega (arith, high, upto_below b ks) }, low)
+pub tallies_find : (counts ks : List ℕ) (p b : ℕ) → b < 32 → Tallies counts ks → sum (take b counts) < p → p ≤ sum (take (b + 1) counts) → HasPosition p b ks
+tallies_find counts ks p b within t fewer enough = record {
+  fewer = omega (arith, tallies_below counts ks b (omega arith) t);
+  enough = omega (arith, tallies_below counts ks (b + 1) (omega arith) t, upto_below b ks);
+}
 
 count_map : (p : ℕ → Bool) (f : ℕ → ℕ) (vs : List ℕ) → count_by p (map f vs) ≡ count_by (λ v. p (f v)) vs
 count_map p f [] = refl

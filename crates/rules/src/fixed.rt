@@ -2,7 +2,7 @@
 ghost use Rattle.rules.specs.Rules.{fixed};
 ghost use Rattle.rules.specs.FixedNumbers.{fixed_bounded};
 
-use crate::range::in_range;
+use crate::chip_values::ChipValues;
 use crate::rule::Rule;
 use terms::{LARGEST, Refusal};
 
@@ -18,7 +18,7 @@ impl Rule for Fixed {
     ghost bounded = { λ rule. fixed_bounded rule.numbers };
 
     fn estimate(&self, chip: usize, _setting: u8, values: &[u16]) -> Result<u16, Refusal> {
-        in_range(chip, values)?;
-        Ok(self.numbers[chip].min(LARGEST))
+        let asked = ChipValues::new(chip, values)?;
+        Ok(self.numbers[asked.chip].min(LARGEST))
     }
 }

@@ -1,10 +1,10 @@
 // The common-mode rules: how a chip's common mode is estimated from the values of its strips.
 #![tactic(auto)]
 
+mod chip_values;
 mod fixed;
 mod laws;
 mod mean;
-mod range;
 mod rank;
 pub mod rule;
 mod tally;

@@ -1,11 +1,10 @@
 // The mean of a chip's values.
-ghost use Rattle.std.specs.Prelude.{◌≡◌, ◌/◌, ◌≤◌, length, sum};
-ghost use Rattle.std.specs.List.{AllByRecursion};
+ghost use Rattle.std.specs.Prelude.{◌≡◌, ◌/◌, length, sum};
 ghost use Rattle.rules.specs.Rules.{mean};
 ghost use Rattle.rules.specs.Averages.{mean_bounded};
 
+use crate::chip_values::ChipValues;
 use crate::laws::mean_stands;
-use crate::range::in_range;
 use crate::rule::{Rule, ShiftRule};
 use terms::Refusal;
 
@@ -18,9 +17,7 @@ impl Rule for Mean {
     ghost bounded = { λ _. mean_bounded };
 
     fn estimate(&self, chip: usize, _setting: u8, values: &[u16]) -> Result<u16, Refusal> {
-        in_range(chip, values)?;
-        let length = values.len() as u32;
-        Ok((total(values) / length) as u16)
+        Ok(ChipValues::new(chip, values)?.mean())
     }
 }
 
@@ -30,16 +27,13 @@ impl ShiftRule for Mean {
     }
 }
 
-// The sum of a chip's values.
-fn total(values: &[u16]) -> u32
-    requires few { length values.now ≤ 128 }
-    requires ten_bits { AllByRecursion (λ v. v ≤ 1023) values.now }
-    ensures value { result ≡ sum values.now }
-    ensures quotient { result / length values.now ≤ 1023 }
-{
-    let mut total = 0;
-    for v in values {
-        total += u32::from(*v);
+impl ChipValues<'_> {
+    // The sum of the values divided by their number, rounded down.
+    fn mean(&self) -> u16
+        ensures { result ≡ sum self.now.values.now / length self.now.values.now }
+    {
+        let length = self.values.len() as u32;
+        let total: u32 = self.values.iter().map(|v| u32::from(*v)).sum();
+        (total / length) as u16
     }
-    total
 }

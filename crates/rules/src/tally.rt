@@ -3,6 +3,9 @@ ghost use Rattle.std.specs.Prelude.{◌≡◌, ℕ, ◌+◌, ◌<◌, ◌≤◌,
 ghost use Rattle.rules.specs.Bins.{Tallies};
 ghost use Rattle.rules.specs.Rules.{HasPosition, below};
 
+// The last of the bins.
+const LAST: usize = 31;
+
 #[derive(Clone, Copy)]
 pub(crate) struct Tally {
     counts: [u8; 32],
@@ -37,25 +40,18 @@ impl Tally {
         requires some { 0 < position }
         requires enough { position ≤ sum (take 32 self.now.counts) }
         ensures within { result.bin < 32 }
-        ensures found { (ks : List ℕ) → Tallies self.now.counts ks → HasPosition position result.bin ks × (result.before ≡ below result.bin ks) }
+        ensures found { (ks : List ℕ) → Tallies self.now.counts ks → HasPosition position result.bin ks }
+        ensures before { (ks : List ℕ) → Tallies self.now.counts ks → result.before ≡ below result.bin ks }
     {
         let mut before = 0;
-        for bin in 0..32 {
-            let upto = before + usize::from(self.count(bin));
+        for (bin, count) in self.counts[..LAST].iter().enumerate() {
+            let upto = before + usize::from(*count);
             if position <= upto {
                 return Found { bin, before };
             }
             before = upto;
         }
-        unreachable()
-    }
-
-    // How many of the values taken lie in a bin; with it the counts of the bins before come to those up to it.
-    pub(crate) fn count(&self, bin: usize) -> u8
-        requires { bin < 32 }
-        ensures value { result ≡ slice_index self.now.counts bin }
-        ensures adds { sum (take (bin + 1) self.now.counts) ≡ sum (take bin self.now.counts) + result }
-    {
-        self.counts[bin]
+        // What lies in none of the bins before lies in the last.
+        Found { bin: LAST, before }
     }
 }
