@@ -13,7 +13,7 @@ use Rattle.card_model.specs.Step.{step, unchanged, refusing, slip_given, ask_wai
 use Rattle.card_model.specs.Readout.{event_length}
 use Rattle.card.specs.declared.inner.Core.{Core}
 use Rattle.card.specs.Abstraction.{state_of}
-use Rattle.card.specs.Queue.{queued, first_in}
+use Rattle.card.specs.Queue.{first_in}
 use Rattle.card.specs.Steps.{Stepped, said_level}
 
 -- a call by what its step is
@@ -61,25 +61,25 @@ module _ (meaning : Meaning) (core : Core) (lists : List (List ℕ)) (room : ℕ
   unfolding state_of ask_step
   asked_out out =
       stepped meaning (state_of core lists room) ask (refusing (state_of core lists room) SlipOut)
-      (cond-true core.slip_out (refusing (state_of core lists room) SlipOut) (ask_waiting (queued core.waiting) (state_of core lists room)) out)
+      (cond-true core.slip_out (refusing (state_of core lists room) SlipOut) (ask_waiting core.waiting (state_of core lists room)) out)
 
-  asks : core.slip_out ≡ false → ask_step (state_of core lists room) ≡ ask_waiting (queued core.waiting) (state_of core lists room)
+  asks : core.slip_out ≡ false → ask_step (state_of core lists room) ≡ ask_waiting core.waiting (state_of core lists room)
   unfolding state_of ask_step
-  asks out = cond-false core.slip_out (refusing (state_of core lists room) SlipOut) (ask_waiting (queued core.waiting) (state_of core lists room)) out
+  asks out = cond-false core.slip_out (refusing (state_of core lists room) SlipOut) (ask_waiting core.waiting (state_of core lists room)) out
 
-  pub asked_none : core.slip_out ≡ false → None ≡ first_in (queued core.waiting)
+  pub asked_none : core.slip_out ≡ false → None ≡ first_in core.waiting
       → Stepped meaning (state_of core lists room) ask (state_of core lists room) (plain (refused NothingWaiting))
   asked_none out e =
       stepped meaning (state_of core lists room) ask (refusing (state_of core lists room) NothingWaiting)
-      (asks out ∙ ap (λ (q : List (List ℕ)). ask_waiting q (state_of core lists room)) (none_first (queued core.waiting) e))
+      (asks out ∙ ap (λ (q : List (List ℕ)). ask_waiting q (state_of core lists room)) (none_first core.waiting e))
 
-  pub asked_some : (lengths : List ℕ) (n : ℕ) → core.slip_out ≡ false → Some lengths ≡ first_in (queued core.waiting) → n ≡ event_length lengths
+  pub asked_some : (lengths : List ℕ) (n : ℕ) → core.slip_out ≡ false → Some lengths ≡ first_in core.waiting → n ≡ event_length lengths
       → Stepped meaning (state_of core lists room) ask (state_of (with_slip_out core true) lists room) (plain (slip n))
   unfolding state_of
   asked_some lengths n out e long =
       subst (λ (m : ℕ). Stepped meaning (state_of core lists room) ask (state_of (with_slip_out core true) lists room) (plain (slip m))) (sym long)
       (stepped meaning (state_of core lists room) ask (slip_given (state_of core lists room) lengths)
-      (asks out ∙ ap (λ (q : List (List ℕ)). ask_waiting q (state_of core lists room)) (some_first (queued core.waiting) lengths e).1))
+      (asks out ∙ ap (λ (q : List (List ℕ)). ask_waiting q (state_of core lists room)) (some_first core.waiting lengths e).1))
 
   pub level_told : (f : ℕ) (r : Result ℕ Refusal) → r ≡ fibre_question f (Ok (level_of lists f))
       → Stepped meaning (state_of core lists room) (level f) (state_of core lists room) (said_level r)

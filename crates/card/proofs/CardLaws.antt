@@ -3,6 +3,7 @@
 use Rattle.std.proofs.Common.{◌≡◌, ℕ, ◌≤◌, List, ◌∷◌, ◌++◌, sym, ap, ◌∙◌, subst}
 use Rattle.rules.specs.Rules.{Meaning, ShiftLaw}
 use Rattle.stores.specs.Store.{largest}
+use Rattle.stores.specs.declared.store.Store.{Ghosts}
 use Rattle.strips.specs.Laws.{Bounded}
 use Rattle.card_model.specs.Calls.{Call}
 use Rattle.card_model.specs.State.{CardState}
@@ -10,7 +11,7 @@ use Rattle.card_model.specs.Runs.{state_after}
 use Rattle.card_model.proofs.Assembly.{three_laws}
 use Rattle.card_model.proofs.Waiting.{readout_laws}
 use Rattle.card.specs.declared.inner.Core.{Core}
-use Rattle.card.specs.Abstraction.{state_of}
+use Rattle.card.specs.Abstraction.{state_of, state_in}
 use Rattle.card.specs.CardLaws.{LawsAfter, LawsAfterList, LawsOf}
 
 -- the capacity of the card that a list of calls leads to is the one that it was made with
@@ -29,6 +30,14 @@ pub laws_after : (meaning : Meaning) → Bounded meaning → (core : Core) (list
     → (call : Call) → LawsAfter meaning (state_of core lists room) call
 laws_after meaning bounded core lists room small call made calls e =
     three_laws meaning made (subst (λ (r : ℕ). r ≤ largest) (same_room meaning core lists room made calls e) small) bounded (call ∷ calls)
+
+-- at a card over a store
+module _ {S : Type 0} (s : Ghosts S) (meaning : Meaning) (bounded : Bounded meaning) (core : Core) (store : S) (small : s.room store ≤ largest) where
+  pub card_laws : (call : Call) → LawsAfter meaning (state_in s core store) call
+  card_laws = laws_after meaning bounded core (s.lists store) (s.room store) small
+
+  pub card_laws_list : (more : List Call) → LawsAfterList meaning (state_in s core store) more
+  card_laws_list = laws_after_list meaning bounded core (s.lists store) (s.room store) small
 
 pub laws_of : (meaning : Meaning) → Bounded meaning → ShiftLaw meaning → (room : ℕ) → room ≤ largest
     → (calls : List Call) → LawsOf meaning room calls

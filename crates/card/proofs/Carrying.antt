@@ -1,6 +1,6 @@
 -- Lists of calls on a card, one call at a time.
 -- Assumes nothing.
-use Rattle.std.proofs.Common.{◌≡◌, ℕ, ◌+◌, ◌<◌, ◌≤◌, min, leb, List, [], ◌∷◌, map, reverse, length, get_or, take, drop, set, Some, None, Ok, Err, Result, sym, refl, ap, ◌∙◌, subst, ap₂, ⊎_elim, arith}
+use Rattle.std.proofs.Common.{◌≡◌, ℕ, ◌+◌, ◌<◌, ◌≤◌, min, leb, List, [], ◌∷◌, map, reverse, length, get_or, take, drop, set, Ok, Err, Result, sym, refl, ap, ◌∙◌, subst, ap₂, ⊎_elim, arith}
 use borrow.Rule.Slice.PartMut.{put_mid}
 use Rattle.std.specs.List.{AllByRecursion}
 use Rattle.std.proofs.lemmas.List.{map_push, map_more, reverse-append, take_more_set, take_all, take-take, take-append-le, drop-take, drop-drop, drop_at, drop-set-lt, length-take-le, length-drop}
@@ -17,14 +17,12 @@ use Rattle.card_model.specs.Step.{step}
 use Rattle.card_model.specs.Runs.{state_after, answers}
 use Rattle.card.specs.declared.call.Call.{Call}
 use Rattle.card.specs.declared.call.Call.TheVariants as calls
-use Rattle.card.specs.declared.answer.Answer.{Answer}
 use Rattle.card.specs.declared.answer.Answer.TheVariants as the
 use Rattle.card.specs.declared.clocked.Clocked.{Clocked}
 use Rattle.card.specs.declared.clocked.Clocked.TheVariants as clocked
-use Rattle.card.specs.declared.slip.Slip.{Slip}
 use Rattle.card.specs.declared.slip.Refused.{Refused}
-use Rattle.card.specs.Steps.{Stepped, Fetched, said_load, said_clock, said_ask, said_fetch, said_give_back, said_level, said_reset}
-use Rattle.card.specs.Carrying.{call_of, answer_of, fetch_answer, lent_to, lent_in, newest_first, state_from, answers_from, largest_count, counted, bytes_question, carry_questions, LiesWithin, Answered, Carried, CarriedOut, RunThrough, RunOut}
+use Rattle.card.specs.Steps.{Stepped, Fetched, said_clocked, said_fetch}
+use Rattle.card.specs.Carrying.{Reply, call_of, answer_of, fetch_answer, lent_to, lent_in, newest_first, state_from, answers_from, largest_count, bytes_question, carry_questions, LiesWithin, Answered, Carried, CarriedOut, RunThrough, RunOut}
 
 -- ---- one call
 
@@ -35,61 +33,34 @@ NoBytes (model.fetched bytes) = ⊥
 NoBytes model.was_reset = Unit {0}
 NoBytes (model.plain p) = Unit {0}
 
-pub no_bytes_load : (r : Result (Unit {0}) Refusal) → NoBytes (said_load r)
-no_bytes_load (Ok x) = tt
-no_bytes_load (Err e) = tt
+pub no_bytes_clocked : (c : Clocked) → NoBytes (said_clocked c)
+no_bytes_clocked clocked.Quiet = tt
+no_bytes_clocked (clocked.Synch s) = tt
+no_bytes_clocked (clocked.Kept n) = tt
+no_bytes_clocked (clocked.Lost l) = tt
 
-pub no_bytes_clock : (r : Result Clocked Refusal) → NoBytes (said_clock r)
-no_bytes_clock (Ok clocked.Quiet) = tt
-no_bytes_clock (Ok (clocked.Synch s)) = tt
-no_bytes_clock (Ok (clocked.Kept n)) = tt
-no_bytes_clock (Ok (clocked.Lost l)) = tt
-no_bytes_clock (Err e) = tt
+lies_anywhere : (from to : ℕ) (a : Reply) → NoBytes (answer_of [] a) → LiesWithin from to a
+lies_anywhere from to (Ok the.Taken) h = tt
+lies_anywhere from to (Ok (the.Clocked c)) h = tt
+lies_anywhere from to (Ok (the.Slip n)) h = tt
+lies_anywhere from to (Ok (the.Fetched at n)) h = absurd h
+lies_anywhere from to (Ok the.GivenBack) h = tt
+lies_anywhere from to (Ok (the.Level n)) h = tt
+lies_anywhere from to (Ok the.WasReset) h = tt
+lies_anywhere from to (Err e) h = tt
 
-pub no_bytes_ask : (r : Result Slip Refusal) → NoBytes (said_ask r)
-no_bytes_ask (Ok s) = tt
-no_bytes_ask (Err e) = tt
-
-pub no_bytes_give_back : (r : Result (Unit {0}) Refused) → NoBytes (said_give_back r)
-no_bytes_give_back (Ok x) = tt
-no_bytes_give_back (Err e) = tt
-
-pub no_bytes_level : (r : Result ℕ Refusal) → NoBytes (said_level r)
-no_bytes_level (Ok n) = tt
-no_bytes_level (Err e) = tt
-
-pub no_bytes_reset : (r : Result (Unit {0}) Refusal) → NoBytes (said_reset r)
-no_bytes_reset (Ok x) = tt
-no_bytes_reset (Err e) = tt
-
-lies_anywhere : (from to : ℕ) (a : Answer) → NoBytes (answer_of [] a) → LiesWithin from to a
-lies_anywhere from to the.Taken h = tt
-lies_anywhere from to (the.Refused e) h = tt
-lies_anywhere from to the.Quiet h = tt
-lies_anywhere from to (the.Synch s) h = tt
-lies_anywhere from to (the.Kept n) h = tt
-lies_anywhere from to (the.Lost l) h = tt
-lies_anywhere from to (the.Slip n) h = tt
-lies_anywhere from to (the.Fetched at n) h = absurd h
-lies_anywhere from to the.GivenBack h = tt
-lies_anywhere from to (the.Level n) h = tt
-lies_anywhere from to the.WasReset h = tt
-
-lies_weaker : (from from' to to' : ℕ) → from' ≤ from → to ≤ to' → (a : Answer) → LiesWithin from to a → LiesWithin from' to' a
-lies_weaker from from' to to' l u the.Taken h = tt
-lies_weaker from from' to to' l u (the.Refused e) h = tt
-lies_weaker from from' to to' l u the.Quiet h = tt
-lies_weaker from from' to to' l u (the.Synch s) h = tt
-lies_weaker from from' to to' l u (the.Kept n) h = tt
-lies_weaker from from' to to' l u (the.Lost k) h = tt
-lies_weaker from from' to to' l u (the.Slip n) h = tt
-lies_weaker from from' to to' l u (the.Fetched at n) h = (omega arith, omega arith)
-lies_weaker from from' to to' l u the.GivenBack h = tt
-lies_weaker from from' to to' l u (the.Level n) h = tt
-lies_weaker from from' to to' l u the.WasReset h = tt
+lies_weaker : (from from' to to' : ℕ) → from' ≤ from → to ≤ to' → (a : Reply) → LiesWithin from to a → LiesWithin from' to' a
+lies_weaker from from' to to' l u (Ok the.Taken) h = tt
+lies_weaker from from' to to' l u (Ok (the.Clocked c)) h = tt
+lies_weaker from from' to to' l u (Ok (the.Slip n)) h = tt
+lies_weaker from from' to to' l u (Ok (the.Fetched at n)) h = (omega arith, omega arith)
+lies_weaker from from' to to' l u (Ok the.GivenBack) h = tt
+lies_weaker from from' to to' l u (Ok (the.Level n)) h = tt
+lies_weaker from from' to to' l u (Ok the.WasReset) h = tt
+lies_weaker from from' to to' l u (Err e) h = tt
 
 -- a call with which no bytes come leaves the buffer as it is
-pub answered_plain : (meaning : Meaning) (before after : CardState) (call which : Call) (at : ℕ) (bytes : List ℕ) (said : model.Answer) (a : Answer)
+pub answered_plain : (meaning : Meaning) (before after : CardState) (call which : Call) (at : ℕ) (bytes : List ℕ) (said : model.Answer) (a : Reply)
     → call ≡ which → Stepped meaning before (call_of which) after said → ((bs : List ℕ) → answer_of bs a ≡ said) → NoBytes said
     → Answered meaning before call at bytes after a bytes
 answered_plain meaning before after call which at bytes said a same did is none =
@@ -119,7 +90,7 @@ fetch_lies at k part ys (Ok n) gave long wrote = (omega arith, omega (arith, wro
 fetch_lies at k part ys (Err r) gave long wrote = tt
 
 -- a Fetch into the part of a buffer from a place on, k bytes long
-pub answered_fetch : (meaning : Meaning) (before after : CardState) (long at k : ℕ) (bytes ys gave : List ℕ) (result : Result ℕ Refused) (a : Answer)
+pub answered_fetch : (meaning : Meaning) (before after : CardState) (long at k : ℕ) (bytes ys gave : List ℕ) (result : Result ℕ Refused) (a : Reply)
     → k ≡ long → at + long ≤ length bytes → length ys ≡ length (take k (drop at bytes))
     → Stepped meaning before (model.fetch (length (take k (drop at bytes)))) after (said_fetch result ys)
     → Fetched gave (take k (drop at bytes)) ys result → a ≡ fetch_answer result at
@@ -134,7 +105,7 @@ answered_fetch meaning before after long at k bytes ys gave result a same fits k
           (subst (λ (x : model.Answer). Stepped meaning before (model.fetch (length (take k (drop at bytes)))) after x)
           (sym (ap (answer_of (put_mid at k bytes ys)) is ∙ fetch_says at k bytes ys result gave inside whole part wrote)) did);
       lies =
-          subst (λ (x : Answer). LiesWithin at (at + long) x) (sym is)
+          subst (λ (x : Reply). LiesWithin at (at + long) x) (sym is)
           (subst (λ (n : ℕ). LiesWithin at (at + n) (fetch_answer result at)) same (fetch_lies at k (take k (drop at bytes)) ys result gave part wrote));
       earlier = take-put_mid_below at k bytes ys at (omega arith) inside;
       later = drop-put_mid at k bytes ys (at + long) (omega arith) inside whole;
@@ -143,24 +114,21 @@ answered_fetch meaning before after long at k bytes ys gave result a same fits k
 -- ---- one call more
 
 -- an answer whose bytes lie in a buffer's start is the same over every buffer that starts so
-answer_kept : (at : ℕ) (xs ys : List ℕ) → take at xs ≡ take at ys → (a : Answer) → LiesWithin 0 at a → answer_of xs a ≡ answer_of ys a
-answer_kept at xs ys e the.Taken h = refl
-answer_kept at xs ys e (the.Refused r) h = refl
-answer_kept at xs ys e the.Quiet h = refl
-answer_kept at xs ys e (the.Synch s) h = refl
-answer_kept at xs ys e (the.Kept n) h = refl
-answer_kept at xs ys e (the.Lost l) h = refl
-answer_kept at xs ys e (the.Slip n) h = refl
-answer_kept at xs ys e (the.Fetched p n) h =
+answer_kept : (at : ℕ) (xs ys : List ℕ) → take at xs ≡ take at ys → (a : Reply) → LiesWithin 0 at a → answer_of xs a ≡ answer_of ys a
+answer_kept at xs ys e (Ok the.Taken) h = refl
+answer_kept at xs ys e (Ok (the.Clocked c)) h = refl
+answer_kept at xs ys e (Ok (the.Slip n)) h = refl
+answer_kept at xs ys e (Ok (the.Fetched p n)) h =
     ap model.fetched
     (sym (drop-take p n xs)
     ∙ ap (drop p) (sym (take-take (p + n) at xs h.1) ∙ ap (take (p + n)) e ∙ take-take (p + n) at ys h.1)
     ∙ drop-take p n ys)
-answer_kept at xs ys e the.GivenBack h = refl
-answer_kept at xs ys e (the.Level n) h = refl
-answer_kept at xs ys e the.WasReset h = refl
+answer_kept at xs ys e (Ok the.GivenBack) h = refl
+answer_kept at xs ys e (Ok (the.Level n)) h = refl
+answer_kept at xs ys e (Ok the.WasReset) h = refl
+answer_kept at xs ys e (Err r) h = refl
 
-answers_kept : (at : ℕ) (xs ys : List ℕ) → take at xs ≡ take at ys → (row : List Answer) → AllByRecursion (LiesWithin 0 at) row
+answers_kept : (at : ℕ) (xs ys : List ℕ) → take at xs ≡ take at ys → (row : List Reply) → AllByRecursion (LiesWithin 0 at) row
     → map (answer_of xs) row ≡ map (answer_of ys) row
 answers_kept at xs ys e [] h = refl
 answers_kept at xs ys e (a ∷ row) h = ap₂ (λ x l. x ∷ l) (answer_kept at xs ys e a h.0) (answers_kept at xs ys e row h.1)
@@ -173,17 +141,6 @@ newest_more cs i d here = ap reverse (map_more call_of cs i d here) ∙ reverse-
 pub lent_more : (cs : List Call) (i : ℕ) (d : Call) (sum n : ℕ) → i < length cs → sum ≡ lent_in (take i cs) → n ≡ lent_to (get_or cs i d)
     → sum + n ≡ lent_in (take (i + 1) cs)
 lent_more cs i d sum n here e is = ap₂ (λ (x y : ℕ). x + y) e is ∙ sym (sum_by_more lent_to cs i d here)
-
-pub lent_past : (cs : List Call) (i : ℕ) (d : Call) (sum n : ℕ) → i < length cs → sum ≡ lent_in (take i cs) → n ≡ lent_to (get_or cs i d)
-    → largest_count < sum + n → None ≡ counted (lent_in cs)
-lent_past cs i d sum n here e is over =
-    sym (cond-false (leb (lent_in cs) largest_count) (Some (lent_in cs)) None
-    (lt-leb (lent_in cs) largest_count (omega (arith, lent_more cs i d sum n here e is, sum_by-take-le lent_to cs (i + 1)))))
-
-pub lent_all : (cs : List Call) (i sum : ℕ) → length cs ≤ i → sum ≡ lent_in (take i cs) → sum ≤ largest_count → Some sum ≡ counted (lent_in cs)
-lent_all cs i sum end e small =
-    let is = e ∙ ap lent_in (take_all i cs end) in
-    ap Some is ∙ sym (cond-true (leb (lent_in cs) largest_count) (Some (lent_in cs)) None (le-leb (lent_in cs) largest_count (omega arith)))
 
 -- a buffer that is long enough for all
 enough : (lent long : ℕ) → Ok tt ≡ bytes_question lent long → lent ≤ long
@@ -210,7 +167,7 @@ row_fits cs row long r h e =
     e ∙ sym (cond-true (leb (length cs) row) (bytes_question (lent_in cs) long) (Err (BufferTooShort (length cs))) (le-leb (length cs) row h))
 
 -- a refusal changed nothing
-pub refused_out : (meaning : Meaning) (before : CardState) (cs : List Call) (row : List Answer) (bytes : List ℕ) (r : Result (Unit {0}) Refusal) (e : Refusal)
+pub refused_out : (meaning : Meaning) (before : CardState) (cs : List Call) (row : List Reply) (bytes : List ℕ) (r : Result (Unit {0}) Refusal) (e : Refusal)
     → r ≡ Err e → CarriedOut meaning before cs row bytes before row bytes r
 refused_out meaning before cs row bytes r e is =
     subst (CarriedOut meaning before cs row bytes before row bytes) (sym is) (record { state = refl; answers = refl; buffer = refl })
@@ -218,7 +175,7 @@ refused_out meaning before cs row bytes r e is =
 -- ---- call by call
 
 -- where a card, its row of answers and its buffer stand after the first i of a list of calls
-pub record Upto (meaning : Meaning) (before : CardState) (cs : List Call) (row : List Answer) (bytes : List ℕ) (i at : ℕ) (after : CardState) (row' : List Answer) (bytes' : List ℕ) : Type 0 where
+pub record Upto (meaning : Meaning) (before : CardState) (cs : List Call) (row : List Reply) (bytes : List ℕ) (i at : ℕ) (after : CardState) (row' : List Reply) (bytes' : List ℕ) : Type 0 where
   pub state : after ≡ state_from meaning before (newest_first (take i cs))
   pub says : reverse (map (answer_of bytes') (take i row')) ≡ answers_from meaning before (newest_first (take i cs))
   pub place : at ≡ lent_in (take i cs)
@@ -226,9 +183,9 @@ pub record Upto (meaning : Meaning) (before : CardState) (cs : List Call) (row :
   pub later_answers : drop i row' ≡ drop i row
   pub later_bytes : drop at bytes' ≡ drop at bytes
 
-module _ (meaning : Meaning) (before : CardState) (cs : List Call) (row : List Answer) (bytes : List ℕ) (i at : ℕ) (after : CardState) (row' : List Answer) (bytes' : List ℕ)
+module _ (meaning : Meaning) (before : CardState) (cs : List Call) (row : List Reply) (bytes : List ℕ) (i at : ℕ) (after : CardState) (row' : List Reply) (bytes' : List ℕ)
     (upto : Upto meaning before cs row bytes i at after row' bytes') where
-  module _ (d : Call) (here : i < length cs) (inside : i < length row') (after'' : CardState) (a : Answer) (bytes'' : List ℕ)
+  module _ (d : Call) (here : i < length cs) (inside : i < length row') (after'' : CardState) (a : Reply) (bytes'' : List ℕ)
       (did : Answered meaning after (get_or cs i d) at bytes' after'' a bytes'') where
     state_more : after'' ≡ state_from meaning before (newest_first (take (i + 1) cs))
     state_more =
@@ -237,7 +194,7 @@ module _ (meaning : Meaning) (before : CardState) (cs : List Call) (row : List A
 
     says_more : reverse (map (answer_of bytes'') (take (i + 1) (set row' i a))) ≡ answers_from meaning before (newest_first (take (i + 1) cs))
     says_more =
-        ap (λ (l : List Answer). reverse (map (answer_of bytes'') l)) (take_more_set row' i a inside)
+        ap (λ (l : List Reply). reverse (map (answer_of bytes'') l)) (take_more_set row' i a inside)
         ∙ ap reverse (map_push (answer_of bytes'') (take i row') a)
         ∙ reverse-append (map (answer_of bytes'') (take i row')) (answer_of bytes'' a ∷ [])
         ∙ ap₂ (λ (x : model.Answer) (l : List model.Answer). x ∷ l)
@@ -274,7 +231,7 @@ module _ (meaning : Meaning) (before : CardState) (cs : List Call) (row : List A
         }
 
   -- the next call, answered by an equal rule
-  pub upto_next : (m : Meaning) → m ≡ meaning → (d : Call) → i < length cs → i < length row' → (after'' : CardState) (a : Answer) (bytes'' : List ℕ)
+  pub upto_next : (m : Meaning) → m ≡ meaning → (d : Call) → i < length cs → i < length row' → (after'' : CardState) (a : Reply) (bytes'' : List ℕ)
       → Answered m after (get_or cs i d) at bytes' after'' a bytes'' → (n : ℕ) → n ≡ lent_to (get_or cs i d)
       → Upto meaning before cs row bytes (i + 1) (at + n) after'' (set row' i a) bytes''
   upto_next m same d here inside after'' a bytes'' did n is =
@@ -306,7 +263,7 @@ answers_from_new meaning room (c ∷ h) =
     ap₂ (λ (x : model.Answer) (l : List model.Answer). x ∷ l) (ap (λ (s : CardState). (step meaning s c).answer) (state_from_new meaning room h))
     (answers_from_new meaning room h)
 
-run_through : (meaning : Meaning) (room : ℕ) (cs : List Call) (row : List Answer) (bytes : List ℕ) (before after : CardState) (row' : List Answer) (bytes' : List ℕ)
+run_through : (meaning : Meaning) (room : ℕ) (cs : List Call) (row : List Reply) (bytes : List ℕ) (before after : CardState) (row' : List Reply) (bytes' : List ℕ)
     → before ≡ fresh room → Carried meaning before cs row bytes after row' bytes' → RunThrough meaning room cs row bytes row' bytes'
 run_through meaning room cs row bytes before after row' bytes' new did =
     record {
@@ -315,7 +272,7 @@ run_through meaning room cs row bytes before after row' bytes' new did =
       later_bytes = did.later_bytes;
     }
 
-pub run_out : (m meaning : Meaning) (room : ℕ) (cs : List Call) (row : List Answer) (bytes : List ℕ) (before after : CardState) (row' : List Answer) (bytes' : List ℕ)
+pub run_out : (m meaning : Meaning) (room : ℕ) (cs : List Call) (row : List Reply) (bytes : List ℕ) (before after : CardState) (row' : List Reply) (bytes' : List ℕ)
     (r : Result (Unit {0}) Refusal) → m ≡ meaning → before ≡ fresh room
     → CarriedOut m before cs row bytes after row' bytes' r → RunOut meaning room cs row bytes row' bytes' r
 run_out m meaning room cs row bytes before after row' bytes' (Ok x) same new did =

@@ -2,12 +2,15 @@
 -- Assumes nothing.
 use Rattle.std.proofs.Common.{◌≡◌, ℕ, ◌+◌, Bool, true, false, cond, eqb, leb, List, [], ◌∷◌, ◌++◌, map, Some, None, Option, sym, ap, ◌∙◌, subst, ap₂}
 use Rattle.std.proofs.lemmas.Bool.{cond-true, cond-false, eq-eqb, ne_eqb}
+use Rattle.terms.specs.declared.refusal.Refusal.{Refusal}
 use Rattle.terms.specs.declared.refusal.Refusal.TheVariants.{SampleTooLarge}
 use Rattle.rules.specs.Rules.{Meaning}
 use Rattle.ticker.specs.declared.ticker.Ticker.{Ticker}
 use Rattle.synch.specs.declared.standing.Standing.{Standing}
 use Rattle.synch.specs.Vote.{event, majority_header}
 use Rattle.synch.specs.Status.{status_word}
+use Rattle.strips.specs.declared.sample.Sample.{Sample}
+use Rattle.strips.specs.Fibre.{numbers}
 use Rattle.card_model.specs.Calls.{clock, Answer, plain, quiet, synch, refused}
 use Rattle.card_model.specs.State as model
 use Rattle.card_model.specs.State.{CardState, Watch}
@@ -17,6 +20,7 @@ use Rattle.card.specs.declared.capture.Capture.{Capture}
 use Rattle.card.specs.declared.inner.Core.{Core}
 use Rattle.card.specs.declared.row.Row.{Row}
 use Rattle.card.specs.Abstraction.{watches_in, rows_in, columns_before, running, capture_in, state_of}
+use Rattle.card.specs.Samples.{IsReadAs, IsTooLarge}
 use Rattle.card.specs.Steps.{Stepped, Leads}
 use Rattle.card.proofs.Calls.{stepped}
 use Rattle.card.proofs.Loading.{with_settings}
@@ -94,12 +98,18 @@ advanced_as core capture new rows samples answer at flags columns says lists roo
     }
 
 module _ (meaning : Meaning) (core : Core) (lists : List (List ℕ)) (room : ℕ) (samples : List ℕ) where
-  pub clock_refused : (f : ℕ) → Some f ≡ too_large samples
+  clock_refused_at : (f : ℕ) → Some f ≡ too_large samples
       → Stepped meaning (state_of core lists room) (clock samples) (state_of core lists room) (plain (refused (SampleTooLarge f)))
   unfolding clock_step
-  clock_refused f e =
+  clock_refused_at f e =
       stepped meaning (state_of core lists room) (clock samples) (refusing (state_of core lists room) (SampleTooLarge f))
       (sym (ap (λ (o : Option ℕ). clock_asked o meaning (state_of core lists room) samples) e))
+
+  pub clock_refused : (e : Refusal) → IsTooLarge samples e
+      → Stepped meaning (state_of core lists room) (clock samples) (state_of core lists room) (plain (refused e))
+  clock_refused e h =
+      subst (λ (x : Refusal). Stepped meaning (state_of core lists room) (clock samples) (state_of core lists room) (plain (refused x))) (sym h.says)
+      (clock_refused_at h.fibre h.lowest)
 
   carried : too_large samples ≡ None
       → clock_step meaning (state_of core lists room) samples ≡ clocked meaning (state_of core lists room) samples (state_of core lists room).capture
@@ -149,6 +159,13 @@ module _ (meaning : Meaning) (core : Core) (lists : List (List ℕ)) (room : ℕ
         state = leads.state ∙ ap (λ (o : Outcome). o.next_card) whole;
         says = leads.says ∙ ap (λ (o : Outcome). o.answer) whole;
       }
+
+-- a Clock by the samples that are read
+pub as_read : (samples : List ℕ) (read : List Sample) → IsReadAs samples read → (meaning : Meaning) (s then : CardState) (answer : Answer)
+    → (too_large (numbers read) ≡ None → Stepped meaning s (clock (numbers read)) then answer) → Stepped meaning s (clock samples) then answer
+as_read samples read is meaning s then answer step =
+    subst (λ (xs : List ℕ). Stepped meaning s (clock xs) then answer) is.same
+    (step (subst (λ (xs : List ℕ). too_large xs ≡ None) (sym is.same) is.fits))
 
 -- within a capture: its last Clock or another
 pub not_last : (meaning : Meaning) (s : CardState) (ws : List Watch) (capture : model.Capture) (samples : List ℕ) (then : CardState) (answer : Answer)

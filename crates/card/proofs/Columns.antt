@@ -1,10 +1,10 @@
 -- A column of samples is captured.
 -- Assumes nothing.
-use Rattle.std.proofs.Common.{◌≡◌, ℕ, zero, suc, ◌+◌, ◌-◌, ◌<◌, ◌≤◌, cond, leb, ◌≢◌, List, [], ◌∷◌, ◌++◌, map, length, get_or, set, sym, refl, ap, ◌∙◌, subst, ap₂, arith}
+use Rattle.std.proofs.Common.{◌≡◌, ℕ, zero, suc, ◌+◌, ◌-◌, ◌<◌, ◌≤◌, cond, ltb, leb, false, ◌≢◌, List, [], ◌∷◌, ◌++◌, map, length, get_or, set, sym, refl, ap, ◌∙◌, subst, ap₂, arith, below_more}
 use Rattle.std.specs.List.{range_with_len}
 use Rattle.std.proofs.lemmas.List.FromFn.{map-range_with_len_more}
-use Rattle.std.proofs.lemmas.List.{length-map, map-set, get_or-map, get_or-set_same, get_or-set_other}
-use Rattle.std.proofs.lemmas.Bool.{cond-true, cond-false, le-leb, lt-leb}
+use Rattle.std.proofs.lemmas.List.{length-map, length-set, map-set, get_or-map, get_or-set_same, get_or-set_other}
+use Rattle.std.proofs.lemmas.Bool.{cond-true, cond-false, le-leb, lt-leb, le-ltb}
 use Rattle.strips.specs.declared.sample.Sample.{Sample}
 use Rattle.strips.specs.Fibre.{numbers}
 use Rattle.card_model.specs.Clock.{first_sample}
@@ -12,8 +12,52 @@ use Rattle.card_model.proofs.Fibres.{get_or_for, for_same}
 use Rattle.card.specs.declared.row.Row.{Row}
 use Rattle.card.specs.Abstraction.{rows_in, sample_at, column_at, columns_before}
 use Rattle.card.specs.Columns.{ColumnSet}
-use Rattle.card.proofs.Fibres.{filled, Upto, upto_here, upto_more, upto_all}
+use Rattle.card.specs.Samples.{IsReadAs}
+use Rattle.card.proofs.Fibres.{filled, none_too_large, Upto, upto_here, upto_more, upto_all}
 use Rattle.card.proofs.Queue.{map_same}
+
+-- samples as numbers
+pub length_numbers : (samples : List Sample) → length (numbers samples) ≡ length samples
+length_numbers samples = length-map samples (λ (x : Sample). x.value)
+
+pub number_at : (samples : List Sample) (f : ℕ) (d : Sample) → f < length samples → (get_or samples f d).value ≡ get_or (numbers samples) f 0
+number_at samples f d h = sym (get_or-map (λ (x : Sample). x.value) samples f d 0 h)
+
+-- the first i samples of a Clock are read
+pub record ReadUpto (samples : List ℕ) (i : ℕ) (read : List Sample) : Type 0 where
+  pub long : length read ≡ 12
+  pub fit : (k : ℕ) → k < i → ltb 1023 (get_or samples k 0) ≡ false
+  pub same : (k : ℕ) → k < i → get_or (numbers read) k 0 ≡ get_or samples k 0
+
+pub read_none : (samples : List ℕ) (read : List Sample) → length read ≡ 12 → ReadUpto samples 0 read
+read_none samples read long = record { long = long; fit = λ k h. absurd (omega arith); same = λ k h. absurd (omega arith) }
+
+pub read_more : (samples : List ℕ) (read : List Sample) (i : ℕ) (x : Sample) → i < 12 → ReadUpto samples i read → x.value ≡ get_or samples i 0
+    → ReadUpto samples (i + 1) (set read i x)
+read_more samples read i x below inv is =
+    let here : set (numbers read) i x.value ≡ numbers (set read i x) = sym (map-set (λ (y : Sample). y.value) read i x) in
+    record {
+      long = length-set read i x ∙ inv.long;
+      fit =
+          below_more (λ (k : ℕ). ltb 1023 (get_or samples k 0) ≡ false) i inv.fit
+          (le-ltb 1023 (get_or samples i 0) (subst (λ (n : ℕ). n ≤ 1023) is x.ten_bits));
+      same =
+          below_more (λ (k : ℕ). get_or (numbers (set read i x)) k 0 ≡ get_or samples k 0) i
+          (λ k h.
+          sym (ap (λ (xs : List ℕ). get_or xs k 0) here)
+          ∙ (get_or-set_other (numbers read) i k x.value 0 (omega arith) ∙ inv.same k h))
+          (sym (ap (λ (xs : List ℕ). get_or xs i 0) here)
+          ∙ (get_or-set_same (numbers read) i x.value 0 (omega (arith, length_numbers read, inv.long)) ∙ is));
+    }
+
+pub read_all : (samples : List ℕ) (read : List Sample) (i : ℕ) → 12 ≤ i → length samples ≡ 12 → ReadUpto samples i read → IsReadAs samples read
+read_all samples read i all long inv =
+    record {
+      fits = sym (none_too_large samples i all inv.fit);
+      same =
+          filled (λ f. get_or samples f 0) (numbers read) 0 (length_numbers read ∙ inv.long) (λ f h. inv.same f (omega arith))
+          ∙ sym (filled (λ f. get_or samples f 0) samples 0 long (λ f h. refl));
+    }
 
 -- every row has 256 samples
 pub rows_long : (rows : List Row) (f : ℕ) → f < length rows → length (get_or (rows_in rows) f []) ≡ 256

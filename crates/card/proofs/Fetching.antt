@@ -21,7 +21,6 @@ use Rattle.card_model.proofs.Fibres.{for_same, total_same, in_order_same}
 use Rattle.card.specs.declared.inner.Core.{Core}
 use Rattle.card.specs.declared.waiting.Waiting.{Waiting}
 use Rattle.card.specs.Abstraction.{state_of}
-use Rattle.card.specs.Queue.{queued}
 use Rattle.card.specs.Steps.{Stepped}
 use Rattle.card.specs.Taking.{record_in, left_by, LengthsOf}
 use Rattle.card.proofs.Calls.{stepped}
@@ -191,7 +190,7 @@ fetched_core core waiting =
       slip_out = false;
     }
 
-module _ (core : Core) (lists : List (List ℕ)) (room : ℕ) (lengths : List ℕ) (same : LengthsOf (queued core.waiting) lengths) where
+module _ (core : Core) (lists : List (List ℕ)) (room : ℕ) (lengths : List ℕ) (same : LengthsOf core.waiting lengths) where
   -- the oldest event of a card, by its lengths
   pub oldest_length : event_length (oldest_lengths (state_of core lists room).readout) ≡ event_length lengths
   unfolding state_of
@@ -203,7 +202,7 @@ module _ (core : Core) (lists : List (List ℕ)) (room : ℕ) (lengths : List �
 
   -- the card without it
   pub without_oldest : (waiting' : Waiting) (lists' : List (List ℕ)) (room' : ℕ)
-      → lists' ≡ for_fibres (left_by lengths lists) → room' ≡ room → queued waiting' ≡ drop 1 (queued core.waiting)
+      → lists' ≡ for_fibres (left_by lengths lists) → room' ≡ room → waiting' ≡ drop 1 core.waiting
       → state_of (fetched_core core waiting') lists' room'
       ≡ with_readout (state_of core lists room) (without_event (state_of core lists room).readout)
   unfolding state_of without_event
@@ -240,7 +239,7 @@ module _ (core : Core) (lists : List (List ℕ)) (room : ℕ) (lengths : List �
         (asked ∙ cond-false (leb n b) (fetching (state_of core lists room)) _ (lt-leb n b short))
 
     pub fetch_done : n ≤ b → (waiting' : Waiting) (lists' : List (List ℕ)) (room' : ℕ) (buffer after : List ℕ)
-        → lists' ≡ for_fibres (left_by lengths lists) → room' ≡ room → queued waiting' ≡ drop 1 (queued core.waiting)
+        → lists' ≡ for_fibres (left_by lengths lists) → room' ≡ room → waiting' ≡ drop 1 core.waiting
         → after ≡ in_fibre_order (record_in lengths lists) ++ drop (event_length lengths) buffer
         → Stepped meaning (state_of core lists room) (fetch b) (state_of (fetched_core core waiting') lists' room') (fetched (take n after))
     fetch_done enough waiting' lists' room' buffer after l r q w =

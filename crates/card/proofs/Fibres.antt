@@ -1,15 +1,15 @@
 -- Lists of one thing for each of the twelve fibres.
 -- Assumes nothing.
-use Rattle.std.proofs.Common.{◌≡◌, ℕ, zero, suc, ◌+◌, ◌<◌, ◌≤◌, Bool, true, false, cond, ltb, List, [], ◌∷◌, ◌++◌, length, get_or, set, Some, None, sum_by, sym, ap, ◌∙◌, ⊎_elim, arith}
+use Rattle.std.proofs.Common.{◌≡◌, ℕ, zero, suc, ◌+◌, ◌<◌, ◌≤◌, Bool, true, false, cond, ltb, List, [], ◌∷◌, ◌++◌, length, get_or, set, Some, None, sum, sum_by, sym, refl, ap, ◌∙◌, ⊎_elim, arith}
 use Rattle.std.specs.List.{range_with_len}
 use Rattle.std.proofs.lemmas.List.FromFn.{fill_by_all, map-range_with_len_more}
 use Rattle.std.proofs.lemmas.List.{map-id, get_or-set_same, get_or-set_other}
-use Rattle.std.proofs.lemmas.List.Sums.{sum_by_push}
-use Rattle.std.proofs.lemmas.Bool.{cases_eq, cases_lt, cond-true, cond-false, lt-ltb, le-ltb, ltb-false}
+use Rattle.std.proofs.lemmas.List.Sums.{sum-map, sum_by_push}
+use Rattle.std.proofs.lemmas.Bool.{cases_eq, cases_lt, cond-true, cond-false, lt-ltb, le-ltb}
 use Rattle.card_model.specs.Fibres.{for_fibres, total, first_of, lowest}
 use Rattle.card_model.specs.Readout.{event_length}
 use Rattle.card_model.specs.Clock.{too_large}
-use Rattle.card_model.proofs.Fibres.{lowest_none, none_lowest}
+use Rattle.card_model.proofs.Fibres.{lowest_none}
 
 -- a list of twelve whose elements are known
 pub filled : {X : Type 0} (g : ℕ → X) (xs : List X) (d : X) → length xs ≡ 12 → ((f : ℕ) → f < 12 → get_or xs f d ≡ g f) → xs ≡ for_fibres g
@@ -49,6 +49,12 @@ module _ {X : Type 0} (g : ℕ → X) (d : X) (before : List X) where
   upto_all i xs all long inv =
       filled g xs d long (λ f h. inv.at f h ∙ cond-true (ltb f i) (g f) (get_or before f d) (lt-ltb f i (omega arith)))
 
+-- the length of an event is the sum of its records' lengths
+pub sum_of_lengths : (lengths : List ℕ) → length lengths ≡ 12 → sum lengths ≡ event_length lengths
+unfolding for_fibres total
+sum_of_lengths lengths long =
+    ap sum (filled (λ f. get_or lengths f 0) lengths 0 long (λ f h. refl)) ∙ sum-map (λ (f : ℕ). get_or lengths f 0) (range_with_len 0 12)
+
 -- a sum over the fibres, one more
 pub counting_more : (n : ℕ) → range_with_len 0 (n + 1) ≡ range_with_len 0 n ++ n ∷ []
 counting_more n =
@@ -57,10 +63,6 @@ counting_more n =
 
 pub sum_more : (g : ℕ → ℕ) (n : ℕ) → sum_by g (range_with_len 0 (n + 1)) ≡ sum_by g (range_with_len 0 n) + g n
 sum_more g n = ap (sum_by g) (counting_more n) ∙ sum_by_push g (range_with_len 0 n) n
-
-pub event_length_is : (lengths : List ℕ) (i sum : ℕ) → i ≡ 12 → sum ≡ sum_by (λ f. get_or lengths f 0) (range_with_len 0 i) → sum ≡ event_length lengths
-unfolding total
-event_length_is lengths i sum all e = e ∙ ap (λ (n : ℕ). sum_by (λ f. get_or lengths f 0) (range_with_len 0 n)) all
 
 -- the lowest fibre that passes a test
 first_at : (p : ℕ → Bool) (a n f : ℕ) → a ≤ f → f < a + n → p f ≡ true → ((k : ℕ) → a ≤ k → k < f → p k ≡ false) → first_of p (range_with_len a n) ≡ Some f
@@ -87,7 +89,3 @@ some_too_large samples f h over none = lowest_some (λ g. ltb 1023 (get_or sampl
 pub none_too_large : (samples : List ℕ) (i : ℕ) → 12 ≤ i → ((k : ℕ) → k < i → ltb 1023 (get_or samples k 0) ≡ false) → None ≡ too_large samples
 unfolding too_large
 none_too_large samples i all none = sym (lowest_none (λ g. ltb 1023 (get_or samples g 0)) (λ f h. none f (omega arith)))
-
-pub not_too_large : (samples : List ℕ) (f : ℕ) → too_large samples ≡ None → f < 12 → get_or samples f 0 ≤ 1023
-unfolding too_large
-not_too_large samples f none h = ltb-false 1023 (get_or samples f 0) (none_lowest (λ g. ltb 1023 (get_or samples g 0)) none f h)

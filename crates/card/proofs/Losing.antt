@@ -1,7 +1,7 @@
 -- Whether a completed event is lost, and what is kept.
 -- Assumes nothing.
-use Rattle.std.proofs.Common.{◌≡◌, ℕ, ◌+◌, ◌-◌, ◌<◌, ◌≤◌, Bool, true, false, cond, eqb, ltb, leb, List, [], ◌∷◌, ◌++◌, length, get_or, take, Some, None, Ok, Option, sym, refl, ap, ◌∙◌, subst, ap₂, arith}
-use Rattle.std.proofs.lemmas.List.{length-take-le}
+use Rattle.std.proofs.Common.{◌≡◌, ℕ, ◌+◌, ◌-◌, ◌<◌, ◌≤◌, Bool, true, false, cond, eqb, ltb, leb, List, [], ◌∷◌, ◌++◌, length, get_or, Some, None, Ok, Option, sym, refl, ap, ◌∙◌, subst, ap₂, arith}
+use Rattle.std.proofs.lemmas.List.{get_or_default}
 use Rattle.std.proofs.lemmas.Bool.{cond-true, cond-false, le-leb, lt-leb, lt-ltb, leb-false, ltb-false}
 use Rattle.rules.specs.Rules.{Meaning}
 use Rattle.stores.specs.Store.{waiting, level_of, appended, put_questions}
@@ -12,7 +12,7 @@ use Rattle.card_model.specs.Calls.{Answer, plain, kept, lost}
 use Rattle.card_model.specs.State.{CardState, Readout}
 use Rattle.card_model.specs.Readout.{record_of, lengths_of, event_length, most_events, exceeds, lacking, loss, with_event}
 use Rattle.card_model.specs.Clock.{records_of, readout_after, completed_answer, completing, last_position, in_capture}
-use Rattle.card_model.proofs.Fibres.{get_or_for, for_same, lowest_same, lowest_none, none_lowest}
+use Rattle.card_model.proofs.Fibres.{get_or_for, lowest_same, lowest_none, none_lowest}
 use Rattle.card.specs.declared.capture.Capture.{Capture}
 use Rattle.card.specs.declared.clocked.Loss.{Loss}
 use Rattle.card.specs.declared.inner.Core.{Core}
@@ -20,10 +20,9 @@ use Rattle.card.specs.declared.row.Row.{Row}
 use Rattle.card.specs.declared.waiting.Waiting.{Waiting}
 use Rattle.card.specs.Abstraction.{watches_in, rows_in, columns_before, running, capture_in, state_of}
 use Rattle.card.proofs.Clocking.{with_capture, is_last}
-use Rattle.card.specs.Queue.{queued}
-use Rattle.card.specs.Event.{event_in, Formed, exceeds_by, loss_by, FitsAll}
+use Rattle.card.specs.Event.{exceeds_by, loss_by, FitsAll}
 use Rattle.card.specs.Steps.{Leads, loss_in}
-use Rattle.card.proofs.Fibres.{Upto, upto_here, upto_more, upto_all, lowest_some}
+use Rattle.card.proofs.Fibres.{Upto, upto_here, upto_more, lowest_some}
 
 -- the loss by the lengths is the loss by the records
 pub loss_as : (r : Readout) (event : List (List ℕ)) (lengths : List ℕ) → lengths ≡ lengths_of event
@@ -77,40 +76,30 @@ module _ (room : ℕ) (lists : List (List ℕ)) (events : ℕ) (lengths : List �
       in
       omega (arith, within f)
 
-module _ (before : List (List ℕ)) (buffers : List (List ℕ)) (lengths : List ℕ) where
+module _ (before records : List (List ℕ)) where
   -- what waits on a fibre with its record behind it
   abbrev pub put_by : ℕ → List ℕ
-  put_by f = waiting before f ++ take (get_or lengths f 0) (get_or buffers f [])
+  put_by f = waiting before f ++ record_of records f
 
-  pub put_more : (lists after : List (List ℕ)) (i : ℕ) (bytes : List ℕ) → i < 12 → length lists ≡ 12
-      → Upto put_by [] before i lists → bytes ≡ take (get_or lengths i 0) (get_or buffers i [])
+  pub put_more : (lists after : List (List ℕ)) (i : ℕ) (bytes d : List ℕ) → i < 12 → length lists ≡ 12 → length records ≡ 12
+      → Upto put_by [] before i lists → bytes ≡ get_or records i d
       → after ≡ appended lists i bytes → Upto put_by [] before (i + 1) after
-  put_more lists after i bytes below twelve inv are is =
+  put_more lists after i bytes d below twelve many inv are is =
       subst (Upto put_by [] before (i + 1)) (sym is)
       (upto_more put_by [] before i lists (waiting lists i ++ bytes) below twelve inv
-      (ap₂ (λ (xs ys : List ℕ). xs ++ ys) (upto_here put_by [] before i lists below inv) are))
-
-  pub put_all : (lists : List (List ℕ)) (i : ℕ) → 12 ≤ i → length lists ≡ 12 → Upto put_by [] before i lists
-      → lists ≡ for_fibres (λ f. waiting before f ++ record_of (event_in buffers lengths) f)
-  unfolding event_in
-  put_all lists i all twelve inv =
-      upto_all put_by [] before i lists all twelve inv
-      ∙ for_same put_by (λ f. waiting before f ++ record_of (event_in buffers lengths) f)
-      (λ f h. ap (λ (xs : List ℕ). waiting before f ++ xs) (sym (get_or_for (λ g. take (get_or lengths g 0) (get_or buffers g [])) f [] h)))
+      (ap₂ (λ (xs ys : List ℕ). xs ++ ys) (upto_here put_by [] before i lists below inv) (are ∙ get_or_default records i d [] (omega arith))))
 
   -- a record that fits is put
-  pub put_goes : (room : ℕ) (lists : List (List ℕ)) (i : ℕ) (bytes : List ℕ) → i < 12 → FitsAll room before lengths
-      → Upto put_by [] before i lists → length bytes ≡ get_or lengths i 0
+  pub put_goes : (room : ℕ) (lists : List (List ℕ)) (i : ℕ) (bytes d : List ℕ) → i < 12 → length records ≡ 12 → FitsAll room before (lengths_of records)
+      → Upto put_by [] before i lists → bytes ≡ get_or records i d
       → put_questions room (level_of lists i) i (length bytes) ≡ Ok tt
-  put_goes room lists i bytes below fits inv long =
+  unfolding lengths_of
+  put_goes room lists i bytes d below many fits inv are =
       let same : level_of lists i ≡ level_of before i = ap length (upto_here put_by [] before i lists below inv) in
+      let long : length bytes ≡ get_or (lengths_of records) i 0 =
+      ap length (are ∙ get_or_default records i d [] (omega arith)) ∙ sym (get_or_for (λ f. length (record_of records f)) i 0 below)
+      in
       put_may room (level_of lists i) i (length bytes) below (omega (arith, fits i below))
-
--- the front of a buffer that is long enough
-pub front_length : (n : ℕ) (buffer : List ℕ) → n ≤ length buffer → length (take (n - 0) buffer) ≡ n
-front_length n buffer h =
-    let same : n - 0 ≡ n = omega arith in
-    ap (λ (k : ℕ). length (take k buffer)) same ∙ length-take-le n buffer h
 
 -- a core with another queue
 abbrev pub with_waiting : Core → Waiting → Core
@@ -125,12 +114,12 @@ with_waiting core waiting =
     }
 
 module _ (core : Core) (lists : List (List ℕ)) (room : ℕ) (event : List (List ℕ)) (lengths : List ℕ) where
-  loses : lengths ≡ lengths_of event → loss_by room lists (length (queued core.waiting)) lengths ≡ loss (state_of core lists room).readout event
+  loses : lengths ≡ lengths_of event → loss_by room lists (length core.waiting) lengths ≡ loss (state_of core lists room).readout event
   unfolding state_of
   loses e = loss_as (state_of core lists room).readout event lengths e
 
   pub event_lost : (l : Loss) → core.capture ≡ None → lengths ≡ lengths_of event
-      → Some (loss_in l) ≡ loss_by room lists (length (queued core.waiting)) lengths
+      → Some (loss_in l) ≡ loss_by room lists (length core.waiting) lengths
       → Leads (completing (state_of core lists room) (watches_in core.tickers) event) (state_of core lists room) (plain (lost (loss_in l)))
   unfolding state_of completing
   event_lost l idle long is =
@@ -144,19 +133,19 @@ module _ (core : Core) (lists : List (List ℕ)) (room : ℕ) (event : List (Lis
       }
 
   pub event_kept : (after : Waiting) (lists' : List (List ℕ)) (room' n : ℕ) → core.capture ≡ None → lengths ≡ lengths_of event
-      → None ≡ loss_by room lists (length (queued core.waiting)) lengths
+      → None ≡ loss_by room lists (length core.waiting) lengths
       → lists' ≡ for_fibres (λ f. waiting lists f ++ record_of event f) → room' ≡ room
-      → queued after ≡ queued core.waiting ++ lengths ∷ [] → n ≡ event_length lengths
+      → after ≡ core.waiting ++ lengths ∷ [] → n ≡ event_length lengths
       → Leads (completing (state_of core lists room) (watches_in core.tickers) event) (state_of (with_waiting core after) lists' room') (kept n)
   unfolding state_of completing with_event
   event_kept after lists' room' n idle long is put same behind total_is =
       let r = (state_of core lists room).readout in
       let why : None ≡ loss r event = is ∙ loses long in
       let readout : (state_of (with_waiting core after) lists' room').readout ≡ with_event r event =
-      ap₂ (λ (ls : List (List ℕ)) (m : ℕ). record { lists = ls; room = m; events = queued after; slip_out = core.slip_out }) put same
+      ap₂ (λ (ls : List (List ℕ)) (m : ℕ). record { lists = ls; room = m; events = after; slip_out = core.slip_out }) put same
       ∙ ap (λ (q : List (List ℕ)).
       record { lists = for_fibres (λ f. waiting lists f ++ record_of event f); room = room; events = q; slip_out = core.slip_out })
-      (behind ∙ ap (λ (ls : List ℕ). queued core.waiting ++ ls ∷ []) long)
+      (behind ∙ ap (λ (ls : List ℕ). core.waiting ++ ls ∷ []) long)
       in
       record {
         state =
@@ -164,10 +153,6 @@ module _ (core : Core) (lists : List (List ℕ)) (room : ℕ) (event : List (Lis
             (ap (capture_in (rows_in core.rows)) idle) (readout ∙ ap (readout_after r event) why);
         says = ap kept (total_is ∙ ap event_length long) ∙ ap (completed_answer event) why;
       }
-
--- an event by its buffers
-pub formed_itself : (event buffers : List (List ℕ)) (lengths : List ℕ) → Formed event buffers lengths → Formed (event_in buffers lengths) buffers lengths
-formed_itself event buffers lengths h = subst (λ (e : List (List ℕ)). Formed e buffers lengths) (sym h.records) h
 
 module _ (meaning : Meaning) (core : Core) (lists : List (List ℕ)) (room : ℕ) (samples : List ℕ) (then : CardState) (answer : Answer) where
   pub completed_as : (rows : List Row) (event : List (List ℕ)) → event ≡ records_of meaning core.settings (columns_before (rows_in rows) 280)

@@ -4,8 +4,8 @@ use Rattle.std.proofs.Common.{◌≡◌, ℕ, zero, suc, ◌+◌, ◌-◌, ◌<�
 use Rattle.std.specs.List.{range_with_len}
 use Rattle.std.proofs.lemmas.List.FromFn.{length-map-range_with_len, get_or-map-range_with_len, map-range_with_len_more}
 use Rattle.std.proofs.lemmas.List.{same_lists, length-drop, get_or-drop, get_or-set_same, get_or-set_other}
-use Rattle.card.specs.declared.waiting.Waiting.{Waiting}
-use Rattle.card.specs.Queue.{round, event_at, queued, first_in}
+use Rattle.card.specs.declared.waiting.Waiting.TheInside.{Inside}
+use Rattle.card.specs.Queue.{round, event_at, queued, IsInRing, first_in}
 
 -- two lists made of functions that agree
 pub map_same : {X : Type 0} (g h : ℕ → X) (n : ℕ) → ((k : ℕ) → k < n → g k ≡ h k) → map g (range_with_len 0 n) ≡ map h (range_with_len 0 n)
@@ -15,11 +15,14 @@ map_same g h n e =
     let below : k < n = omega (arith, length-map-range_with_len g 0 n) in
     get_or-map-range_with_len g 0 n k k d below (omega arith) ∙ (e k below ∙ sym (get_or-map-range_with_len h 0 n k k d below (omega arith))))
 
-pub queued_length : (w : Waiting) → length (queued w) ≡ w.count
+pub queued_length : (w : Inside) → length (queued w) ≡ w.count
 unfolding queued
 queued_length w = length-map-range_with_len (event_at w.rows w.head) 0 w.count
 
-pub queued_none : (w : Waiting) → w.count ≡ 0 → queued w ≡ []
+pub fewer : (w : Inside) (events : List (List ℕ)) → queued w ≡ events → length events < 255 → w.count < 255
+fewer w events is few = omega (arith, queued_length w, ap (λ (es : List (List ℕ)). length es) is)
+
+pub queued_none : (w : Inside) → w.count ≡ 0 → queued w ≡ []
 unfolding queued
 queued_none w e = ap (λ (n : ℕ). map (event_at w.rows w.head) (range_with_len 0 n)) e
 
@@ -27,20 +30,20 @@ first_of_some : {X : Type 0} (g : ℕ → X) (n : ℕ) → 0 < n → first_in (m
 first_of_some g zero h = absurd (omega arith)
 first_of_some g (suc n) h = refl
 
-pub front_none : (w : Waiting) → w.count ≡ 0 → None ≡ first_in (queued w)
+pub front_none : (w : Inside) → w.count ≡ 0 → None ≡ first_in (queued w)
 front_none w e = sym (ap (λ (xs : List (List ℕ)). first_in xs) (queued_none w e))
 
-pub front_some : (w : Waiting) (x : List ℕ) → 0 < w.count → x ≡ get_or w.rows w.head [] → Some x ≡ first_in (queued w)
+pub front_some : (w : Inside) → IsInRing w → (x : List ℕ) → 0 < w.count → x ≡ get_or w.rows w.head [] → Some x ≡ first_in (queued w)
 unfolding queued
-front_some w x h e =
+front_some w ring x h e =
     let start : round (w.head + 0) ≡ w.head = grind arith in
     sym (first_of_some (event_at w.rows w.head) w.count h ∙ ap Some (ap (λ (p : ℕ). get_or w.rows p []) start ∙ sym e))
 
-pub pushed : (w w' : Waiting) (x : List ℕ) → length w.rows ≡ 255 → w.count < 255
+pub pushed : (w w' : Inside) (x : List ℕ) → IsInRing w → length w.rows ≡ 255 → w.count < 255
     → w'.rows ≡ set w.rows (round (w.head + w.count)) x → w'.head ≡ w.head → w'.count ≡ w.count + 1
     → queued w' ≡ queued w ++ x ∷ []
 unfolding queued
-pushed w w' x long room rows head count =
+pushed w w' x ring long room rows head count =
     let g = event_at w.rows w.head in
     let h = event_at (set w.rows (round (w.head + w.count)) x) w.head in
     let n = w.count in
@@ -53,10 +56,10 @@ pushed w w' x long room rows head count =
     let same : map (event_at w'.rows w'.head) (range_with_len 0 w'.count) ≡ map h (range_with_len 0 (n + 1)) = cc in
     same ∙ (map-range_with_len_more h 0 n n (omega arith) ∙ cc (map_same h g n old))
 
-pub popped : (w w' : Waiting) → 0 < w.count → w'.rows ≡ w.rows → w'.head ≡ round (w.head + 1) → w'.count ≡ w.count - 1
+pub popped : (w w' : Inside) → IsInRing w → 0 < w.count → w'.rows ≡ w.rows → w'.head ≡ round (w.head + 1) → w'.count ≡ w.count - 1
     → queued w' ≡ drop 1 (queued w)
 unfolding queued
-popped w w' some rows head count =
+popped w w' ring some rows head count =
     let g = event_at w.rows w.head in
     let h = event_at w.rows (round (w.head + 1)) in
     let n = w.count in
@@ -70,6 +73,6 @@ popped w w' some rows head count =
     ∙ (ap (λ (p : ℕ). get_or w.rows p []) place
     ∙ sym (get_or-drop 1 (map g (range_with_len 0 n)) k d ∙ get_or-map-range_with_len g 0 n (1 + k) (1 + k) d (omega arith) (omega arith))))
 
-pub popped_none : (w w' : Waiting) → w.count ≡ 0 → w' ≡ w → queued w' ≡ drop 1 (queued w)
+pub popped_none : (w w' : Inside) → w.count ≡ 0 → w' ≡ w → queued w' ≡ drop 1 (queued w)
 popped_none w w' none same =
     ap queued same ∙ (queued_none w none ∙ sym (ap (λ (xs : List (List ℕ)). drop 1 xs) (queued_none w none)))

@@ -18,7 +18,6 @@ use Rattle.card_model.specs.Step.{sent_off, all_sent, resetting}
 use Rattle.card.specs.declared.inner.Core.{Core}
 use Rattle.card.specs.declared.waiting.Waiting.{Waiting}
 use Rattle.card.specs.Abstraction.{watch_in, watches_in, rows_in, capture_in, state_of}
-use Rattle.card.specs.Queue.{queued}
 use Rattle.card.proofs.Fibres.{Upto, upto_here, upto_more, upto_all}
 use Rattle.card.proofs.Loading.{watches_set, sent_as}
 
@@ -62,7 +61,7 @@ restarted core tickers waiting =
     }
 
 pub restarted_as : (core : Core) (tickers : List Ticker) (waiting : Waiting) → core.slip_out ≡ false
-    → watches_in tickers ≡ all_sent core.settings (watches_in core.tickers) → queued waiting ≡ []
+    → watches_in tickers ≡ all_sent core.settings (watches_in core.tickers) → waiting ≡ []
     → (lists : List (List ℕ)) (room : ℕ)
     → state_of (restarted core tickers waiting) empty_lists room ≡ (resetting (state_of core lists room)).next_card
 unfolding state_of
@@ -72,7 +71,7 @@ restarted_as core tickers waiting out ws none lists room =
       settings = core.settings;
       watches = w;
       capture = None;
-      readout = record { lists = empty_lists; room = room; events = queued waiting; slip_out = core.slip_out };
+      readout = record { lists = empty_lists; room = room; events = waiting; slip_out = core.slip_out };
     }) ws
     ∙ ap₂ (λ (q : List (List ℕ)) (b : Bool).
     record {
@@ -83,7 +82,7 @@ restarted_as core tickers waiting out ws none lists room =
     }) none out
 
 pub fresh_as : (core : Core) (t : Ticker) → core.settings ≡ fresh_card → core.tickers ≡ replicate 12 t → t.state ≡ Off → t.header ≡ blank
-    → core.capture ≡ None → queued core.waiting ≡ [] → core.slip_out ≡ false
+    → core.capture ≡ None → core.waiting ≡ [] → core.slip_out ≡ false
     → (room : ℕ) → state_of core empty_lists room ≡ fresh room
 unfolding state_of fresh off for_fibres watches_in
 fresh_as core t settings tickers state header idle none out room =

@@ -41,11 +41,14 @@ module _ (settings : CardSettings) (before : List Ticker) (samples : List ℕ) w
 
   pub ticked_more : (tickers : List Ticker) (i : ℕ) (d new : Ticker) (e : FibreSettings) (level : Bool) → i < 12 → length tickers ≡ 12
       → length settings.fibres ≡ 12 → Upto ticked_by off (watches_in before) i (watches_in tickers)
-      → level ≡ is_one (get_or samples i 0) (get_or settings.fibres i e).threshold
+      → (n : ℕ) → n ≡ get_or samples i 0 → level ≡ is_one n (get_or settings.fibres i e).threshold
       → new.state ≡ next (get_or settings.fibres i e).enable (get_or tickers i d).state level
       → new.header ≡ heard (get_or settings.fibres i e).enable (get_or tickers i d).state level (get_or tickers i d).header
       → Upto ticked_by off (watches_in before) (i + 1) (watches_in (set tickers i new))
-  ticked_more tickers i d new e level below long longs inv at state header =
+  ticked_more tickers i d new e level below long longs inv n number as_n state header =
+      let at : level ≡ is_one (get_or samples i 0) (get_or settings.fibres i e).threshold =
+      as_n ∙ ap (λ (m : ℕ). is_one m (get_or settings.fibres i e).threshold) number
+      in
       let fibre : get_or settings.fibres i e ≡ of_fibre settings i = get_or_default settings.fibres i e no_fibre (omega arith) in
       let was : watch_in (get_or tickers i d) ≡ watch_of (watches_in before) i = not_yet tickers i d below long inv in
       let with_level : watch_in new
@@ -66,10 +69,13 @@ module _ (settings : CardSettings) (before : List Ticker) (samples : List ℕ) w
   pub pulsed_more : (tickers : List Ticker) (ps start : List Bool) (i : ℕ) (d : Ticker) (e : FibreSettings) (level p : Bool) → i < 12 → length tickers ≡ 12
       → length ps ≡ 12 → length settings.fibres ≡ 12 → Upto ticked_by off (watches_in before) i (watches_in tickers)
       → Upto pulsed_by false start i ps
-      → level ≡ is_one (get_or samples i 0) (get_or settings.fibres i e).threshold
+      → (n : ℕ) → n ≡ get_or samples i 0 → level ≡ is_one n (get_or settings.fibres i e).threshold
       → p ≡ pulses (get_or settings.fibres i e).enable (get_or tickers i d).state level
       → Upto pulsed_by false start (i + 1) (set ps i p)
-  pulsed_more tickers ps start i d e level p below long many longs inv before_p at pulse =
+  pulsed_more tickers ps start i d e level p below long many longs inv before_p n number as_n pulse =
+      let at : level ≡ is_one (get_or samples i 0) (get_or settings.fibres i e).threshold =
+      as_n ∙ ap (λ (m : ℕ). is_one m (get_or settings.fibres i e).threshold) number
+      in
       let fibre : get_or settings.fibres i e ≡ of_fibre settings i = get_or_default settings.fibres i e no_fibre (omega arith) in
       let was : watch_in (get_or tickers i d) ≡ watch_of (watches_in before) i = not_yet tickers i d below long inv in
       let here : p ≡ pulsed_by i =

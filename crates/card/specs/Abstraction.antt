@@ -1,9 +1,10 @@
 -- What a card's memory stands for.
 -- Assumes nothing.
-use Rattle.std.specs.Prelude.{ℕ, ◌-◌, Bool, List, [], map, Some, None, Option, slice_index, slice_index_or}
+use Rattle.std.specs.Prelude.{◌≡◌, ℕ, ◌-◌, Bool, List, [], map, Some, None, Option, slice_index, slice_index_or}
 use Rattle.std.specs.List.{range_with_len}
 use Rattle.terms.specs.declared.enable.Enable.{Enable}
 use Rattle.ticker.specs.declared.ticker.Ticker.{Ticker}
+use Rattle.stores.specs.declared.store.Store.{Ghosts}
 use Rattle.ticker.specs.Step.{in_lock}
 use Rattle.synch.specs.declared.standing.Standing.{Standing}
 use Rattle.strips.specs.Fibre.{numbers}
@@ -13,7 +14,6 @@ use Rattle.card_model.specs.Clock.{first_sample}
 use Rattle.card.specs.declared.capture.Capture.{Capture}
 use Rattle.card.specs.declared.inner.Core.{Core}
 use Rattle.card.specs.declared.row.Row.{Row}
-use Rattle.card.specs.Queue.{queued}
 
 -- a ticker
 abbrev pub watch_in : Ticker → model.Watch
@@ -57,5 +57,13 @@ state_of core lists room =
       settings = core.settings;
       watches = watches_in core.tickers;
       capture = capture_in (rows_in core.rows) core.capture;
-      readout = record { lists = lists; room = room; events = queued core.waiting; slip_out = core.slip_out };
+      readout = record { lists = lists; room = room; events = core.waiting; slip_out = core.slip_out };
     }
+
+-- the same over a store
+abbrev pub state_in : {S : Type 0} → Ghosts S → Core → S → model.CardState
+state_in s core store = state_of core (s.lists store) (s.room store)
+
+-- whatever a store holds, the state of a card goes on by a change, as its memory does
+abbrev pub StateGoes : (model.CardState → model.CardState) → Core → Core → Type 0
+StateGoes change before after = (lists : List (List ℕ)) (room : ℕ) → state_of after lists room ≡ change (state_of before lists room)

@@ -1,28 +1,12 @@
--- An event of twelve records, as a completed capture forms it.
+-- Whether an event of twelve records is lost, by their lengths.
 -- Assumes nothing.
-use Rattle.std.specs.Prelude.{◌≡◌, ℕ, ◌+◌, ◌-◌, ◌<◌, ◌≤◌, Bool, cond, List, [], length, take, Some, None, Option, nat_le, nat_lt, slice_index, slice_index_or}
+use Rattle.std.specs.Prelude.{ℕ, ◌+◌, ◌-◌, ◌<◌, ◌≤◌, Bool, cond, List, Some, None, Option, nat_le, nat_lt, slice_index}
 use Rattle.stores.specs.Store.{level_of}
-use Rattle.card_model.specs.Fibres.{for_fibres, lowest}
+use Rattle.card_model.specs.Fibres.{lowest}
 use Rattle.card_model.specs.Calls as model
-use Rattle.card_model.specs.Readout.{most_events, lacking, lengths_of}
+use Rattle.card_model.specs.Readout.{most_events, lacking}
 use Rattle.card.specs.declared.clocked.Loss.{Loss}
 use Rattle.card.specs.Steps.{loss_in}
-
--- the records in twelve buffers, each of its length
-unfoldable pub event_in : List (List ℕ) → List ℕ → List (List ℕ)
-event_in buffers lengths = for_fibres (λ f. take (slice_index lengths f) (slice_index_or buffers f []))
-
--- a buffer holds a record: it stands at its front, and this is its length
-pub record RecordFormed (bytes : List ℕ) (buffer : List ℕ) (n : ℕ) : Type 0 where
-  pub bytes_are : take n buffer ≡ bytes
-  pub length_is : n ≡ length bytes
-  pub within : n ≤ 515
-
--- twelve buffers hold an event: its records stand at their fronts, and these are their lengths
-pub record Formed (event : List (List ℕ)) (buffers : List (List ℕ)) (lengths : List ℕ) : Type 0 where
-  pub records : event_in buffers lengths ≡ event
-  pub lengths_are : lengths ≡ lengths_of event
-  pub within : (f : ℕ) → f < 12 → slice_index lengths f ≤ 515
 
 -- a record of a length exceeds the free room of its fibre
 abbrev pub exceeds_by : ℕ → List (List ℕ) → List ℕ → ℕ → Bool

@@ -1,8 +1,10 @@
 pub mod Queue
 pub mod Abstraction
 pub mod Columns
+pub mod Samples
 pub mod Steps
 pub mod Event
 pub mod Taking
 pub mod Carrying
 pub mod CardLaws
+pub mod Held

@@ -37,15 +37,9 @@ impl Call {
 fn lent_to_all(calls: &[Call]) -> Option<usize>
     ensures { result ≡ counted (lent_in calls.now) }
 {
-    let mut sum = 0;
-    for call in calls {
-        let lent = call.lent();
-        if lent > usize::MAX - sum {
-            return None;
-        }
-        sum += lent;
-    }
-    Some(sum)
+    calls
+        .iter()
+        .try_fold(0, |sum: usize, call| sum.checked_add(call.lent()))
 }
 
 // Are so many bytes as many as a list of calls is lent together? 11, with that number, one above the largest as that.

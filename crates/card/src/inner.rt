@@ -7,6 +7,9 @@ use ticker::Ticker;
 
 pub(crate) mod advance;
 pub(crate) mod apply;
+pub(crate) mod complete;
+pub(crate) mod go_on;
+pub(crate) mod loss;
 pub(crate) mod new;
 pub(crate) mod restart;
 pub(crate) mod seek;
@@ -14,6 +17,7 @@ pub(crate) mod seek;
 #[derive(Drop)]
 pub(crate) struct Core {
     pub(crate) settings: CardSettings,
+    // Apart from the rows: a Clock steps all twelve, so they lie close together.
     pub(crate) tickers: [Ticker; 12],
     pub(crate) capture: Option<Capture>,
     // The captured samples of each fibre.

@@ -12,6 +12,7 @@ mod forming;
 mod inner;
 mod lengths;
 mod putting;
+mod record;
 mod row;
 pub mod run;
 mod samples;

@@ -16,12 +16,13 @@ pub fn run_calls<R: ShiftRule + Drop, S: Store + Drop>(
     rule: R,
     store: S,
     calls: &[Call],
-    answers: &mut [Answer],
+    answers: &mut [Result<Answer, Refusal>],
     bytes: &mut [u8],
 ) -> Result<(), Refusal>
     ensures answer { result ≡ carry_questions calls.now (length answers.old) (length bytes.old) }
-    ensures run { RunOut (R.Rule.meaning rule) (S.Store.room store) calls.now answers.old bytes.old answers.new bytes.new result }
-    ensures laws { LawsOf (R.Rule.meaning rule) (S.Store.room store) (newest_first calls.now) }
+    ensures run { RunOut (R.meaning rule) (S.room store) calls.now answers.old bytes.old
+        answers.new bytes.new result }
+    ensures laws { LawsOf (R.meaning rule) (S.room store) (newest_first calls.now) }
 {
     rule.shifts();
     let mut card = Card::new(rule, store);

@@ -1,17 +1,29 @@
 // The twelve samples of a Clock.
-ghost use Rattle.std.specs.Prelude.{◌≡◌};
-ghost use Rattle.card_model.specs.Clock.{too_large};
+ghost use Rattle.std.specs.Prelude.{◌≡◌, IfOk, IfErr};
+ghost use Rattle.card.specs.Samples.{IsReadAs, IsTooLarge};
 
-use terms::{FIBRES, LARGEST};
+use strips::Sample;
+use terms::{FIBRES, Refusal};
 
-// The lowest fibre whose sample is above 1023.
-pub(crate) fn too_large(samples: &[u16; 12]) -> Option<usize>
-    ensures { result ≡ too_large samples.now }
+// The least sample.
+pub(crate) fn zero() -> Sample {
+    match Sample::new(0) {
+        Some(sample) => sample,
+        None => unreachable(),
+    }
+}
+
+// Are all up to 1023? 7, with the lowest fibre whose sample is not.
+pub(crate) fn read_samples(samples: &[u16; 12]) -> Result<[Sample; 12], Refusal>
+    ensures read { IfOk result (IsReadAs samples.now) }
+    ensures large { IfErr result (IsTooLarge samples.now) }
 {
-    for f in 0..FIBRES {
-        if samples[f] > LARGEST {
-            return Some(f);
+    let mut read = [zero(); FIBRES];
+    for (f, sample) in samples.iter().enumerate() {
+        match Sample::new(*sample) {
+            Some(sample) => read[f] = sample,
+            None => return Err(Refusal::SampleTooLarge(f)),
         }
     }
-    None
+    Ok(read)
 }

@@ -1,5 +1,5 @@
 // The right to one event: Ask gives a slip out, Fetch and Give back take it.
-ghost use Rattle.std.specs.Prelude.{◌≡◌, true};
+ghost use Rattle.std.specs.Prelude.{◌≡◌, true, false};
 
 use terms::Refusal;
 
@@ -21,6 +21,17 @@ impl Drop for Slip {
 }
 
 impl Slip {
+    // A slip for an event of a length.
+    pub(crate) fn new(length: usize) -> Slip
+        ensures length { result.length ≡ length }
+        ensures spent { result.spent ≡ false }
+    {
+        Slip {
+            length,
+            spent: false,
+        }
+    }
+
     // The length of the event.
     pub fn length(&self) -> usize
         ensures { result ≡ self.now.length }
@@ -29,9 +40,8 @@ impl Slip {
     }
 
     // Spends the slip.
-    pub(crate) fn spend(self) {
-        let mut slip = self;
-        slip.spent = true;
+    pub(crate) fn spend(mut self) {
+        self.spent = true;
     }
 }
 
@@ -39,4 +49,15 @@ impl Slip {
 pub struct Refused {
     pub slip: Slip,
     pub refusal: Refusal,
+}
+
+impl Refused {
+    // Spends the slip, and tells why the call was refused.
+    pub(crate) fn spend(self) -> Refusal
+        ensures { result ≡ self.refusal }
+    {
+        let Refused { slip, refusal } = self;
+        slip.spend();
+        refusal
+    }
 }

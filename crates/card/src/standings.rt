@@ -5,10 +5,11 @@ ghost use Rattle.card.specs.Abstraction.{watch_in, watches_in, standing_as};
 
 use settings::CardSettings;
 use synch::Standing;
-use terms::{Enable, FIBRES};
+use terms::Enable;
 use ticker::Ticker;
 
 // How each fibre stands, by the state and the header of its ticker; some fibres are in step.
+// A loop: of what array::from_fn makes it stayed open by which tickers its closure made it.
 pub(crate) fn standings(
     settings: &CardSettings,
     tickers: &[Ticker; 12],
@@ -17,8 +18,8 @@ pub(crate) fn standings(
     ensures { result ≡ standings_of settings.now (watches_in tickers.now) in_step.now }
 {
     let mut fibres = [standing(settings.fibres[0].enable, &tickers[0], in_step[0]); 12];
-    for f in 0..FIBRES {
-        fibres[f] = standing(settings.fibres[f].enable, &tickers[f], in_step[f]);
+    for (f, fibre) in fibres.iter_mut().enumerate() {
+        *fibre = standing(settings.fibres[f].enable, &tickers[f], in_step[f]);
     }
     fibres
 }
@@ -37,12 +38,8 @@ fn standing(enable: Enable, ticker: &Ticker, in_step: bool) -> Standing
 
 // Whether no fibre pulses.
 pub(crate) fn none_pulses(pulses: &[bool; 12]) -> bool
-    ensures { result ≡ true → (f : ℕ) → f < 12 → slice_index_or pulses.now f false ≡ false }
+    ensures { result ≡ true
+        → (f : ℕ) → f < 12 → slice_index_or pulses.now f false ≡ false }
 {
-    for pulse in pulses {
-        if *pulse {
-            return false;
-        }
-    }
-    true
+    !pulses.iter().any(|pulse| *pulse)
 }

@@ -1,9 +1,8 @@
 // Ask: a slip for the oldest event.
 ghost use Rattle.std.specs.Prelude.{◌≡◌, false, IfOk};
 ghost use Rattle.card_model.specs.Calls.{ask as the_ask};
-ghost use Rattle.card.specs.Abstraction.{state_of};
-ghost use Rattle.card.specs.CardLaws.{LawsAfter};
-ghost use Rattle.card.specs.Steps.{Stepped, said_ask};
+ghost use Rattle.card.specs.Held.{CallStepped, CallKeepsLaws};
+ghost use Rattle.card.specs.Steps.{said_ask};
 
 use super::Card;
 use crate::lengths::event_length;
@@ -15,10 +14,10 @@ use terms::Refusal;
 impl<R: Rule + Drop, S: Store + Drop> Card<R, S> {
     // Is no slip out? 8. Does an event wait? 9. The slip has the event's length, and is not spent.
     pub fn ask(&mut self) -> Result<Slip, Refusal>
-        ensures step { Stepped (R.Rule.meaning self.old.rule) (state_of self.old.core (S.Store.lists self.old.store) (S.Store.room self.old.store)) the_ask (state_of self.new.core (S.Store.lists self.new.store) (S.Store.room self.new.store)) (said_ask result) }
+        ensures step { CallStepped R.meaning self.old the_ask self.new (said_ask result) }
         ensures slip { IfOk result (λ s. s.spent ≡ false) }
         ensures rule { self.new.rule ≡ self.old.rule }
-        ensures laws { LawsAfter (R.Rule.meaning self.old.rule) (state_of self.old.core (S.Store.lists self.old.store) (S.Store.room self.old.store)) the_ask }
+        ensures laws { CallKeepsLaws R.meaning self.old the_ask }
     {
         if self.core.slip_out {
             return Err(Refusal::SlipOut);
@@ -27,10 +26,7 @@ impl<R: Rule + Drop, S: Store + Drop> Card<R, S> {
             None => Err(Refusal::NothingWaiting),
             Some(lengths) => {
                 self.core.slip_out = true;
-                Ok(Slip {
-                    length: event_length(&lengths),
-                    spent: false,
-                })
+                Ok(Slip::new(event_length(&lengths)))
             }
         }
     }

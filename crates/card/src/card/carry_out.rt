@@ -1,8 +1,7 @@
 // Lists of calls, carried out call by call.
 ghost use Rattle.std.specs.Prelude.{◌≡◌, ◌+◌, ◌≤◌, length};
-ghost use Rattle.card.specs.Abstraction.{state_of};
-ghost use Rattle.card.specs.Carrying.{lent_to, newest_first, carry_questions, Answered, CarriedOut};
-ghost use Rattle.card.specs.CardLaws.{LawsAfterList};
+ghost use Rattle.card.specs.Carrying.{lent_to, carry_questions};
+ghost use Rattle.card.specs.Held.{CallAnswered, CallsCarriedOut, CallsKeepLaws};
 
 use super::Card;
 use crate::answer::Answer;
@@ -14,39 +13,53 @@ use terms::Refusal;
 
 impl<R: Rule + Drop, S: Store + Drop> Card<R, S> {
     // Carries out a Fetch into a part of the bytes, with a slip of its own.
-    fn answer_fetch(&mut self, long: usize, bytes: &mut [u8], at: usize) -> Answer
+    fn answer_fetch(&mut self, long: usize, bytes: &mut [u8], at: usize) -> Result<Answer, Refusal>
         requires { at + long ≤ length bytes.old }
-        ensures step { Answered (R.Rule.meaning self.old.rule) (state_of self.old.core (S.Store.lists self.old.store) (S.Store.room self.old.store)) (Call.Fetch long) at bytes.old (state_of self.new.core (S.Store.lists self.new.store) (S.Store.room self.new.store)) result bytes.new }
+        ensures step { CallAnswered R.meaning self.old (Call.Fetch long) at bytes.old
+            self.new result bytes.new }
         ensures rule { self.new.rule ≡ self.old.rule }
     {
-        let slip = Slip {
-            length: 0,
-            spent: false,
-        };
         let end = at + long;
-        Answer::of_fetch(self.fetch(slip, &mut bytes[at..end]), at)
+        match self.fetch(Slip::new(0), &mut bytes[at..end]) {
+            Ok(length) => Ok(Answer::Fetched { at, length }),
+            Err(refused) => Err(refused.spend()),
+        }
     }
 
     // Carries out a call. A Fetch is lent its part of the bytes, from a place on.
-    fn answer(&mut self, call: Call, bytes: &mut [u8], at: usize) -> Answer
+    fn answer(&mut self, call: Call, bytes: &mut [u8], at: usize) -> Result<Answer, Refusal>
         requires { at + lent_to call ≤ length bytes.old }
-        ensures step { Answered (R.Rule.meaning self.old.rule) (state_of self.old.core (S.Store.lists self.old.store) (S.Store.room self.old.store)) call at bytes.old (state_of self.new.core (S.Store.lists self.new.store) (S.Store.room self.new.store)) result bytes.new }
+        ensures step { CallAnswered R.meaning self.old call at bytes.old self.new result bytes.new }
         ensures rule { self.new.rule ≡ self.old.rule }
     {
         match call {
-            Call::Load(word) => Answer::of_load(self.load(word)),
-            Call::Clock(samples) => Answer::of_clock(self.clock(&samples)),
-            Call::Ask => Answer::of_ask(self.ask()),
-            Call::Fetch(long) => self.answer_fetch(long, bytes, at),
-            Call::GiveBack => {
-                let slip = Slip {
-                    length: 0,
-                    spent: false,
-                };
-                Answer::of_give_back(self.give_back(slip))
+            Call::Load(word) => {
+                self.load(word)?;
+                Ok(Answer::Taken)
             }
-            Call::Level(fibre) => Answer::of_level(self.level(fibre)),
-            Call::Reset => Answer::of_reset(self.reset()),
+            Call::Clock(samples) => {
+                let clocked = self.clock(&samples)?;
+                Ok(Answer::Clocked(clocked))
+            }
+            Call::Ask => {
+                let slip = self.ask()?;
+                let length = slip.length();
+                slip.spend();
+                Ok(Answer::Slip(length))
+            }
+            Call::Fetch(long) => self.answer_fetch(long, bytes, at),
+            Call::GiveBack => match self.give_back(Slip::new(0)) {
+                Ok(()) => Ok(Answer::GivenBack),
+                Err(refused) => Err(refused.spend()),
+            },
+            Call::Level(fibre) => {
+                let level = self.level(fibre)?;
+                Ok(Answer::Level(level))
+            }
+            Call::Reset => {
+                self.reset()?;
+                Ok(Answer::WasReset)
+            }
         }
     }
 
@@ -56,19 +69,23 @@ impl<R: Rule + Drop, S: Store + Drop> Card<R, S> {
     pub fn carry_out(
         &mut self,
         calls: &[Call],
-        answers: &mut [Answer],
+        answers: &mut [Result<Answer, Refusal>],
         bytes: &mut [u8],
     ) -> Result<(), Refusal>
         ensures answer { result ≡ carry_questions calls.now (length answers.old) (length bytes.old) }
-        ensures run { CarriedOut (R.Rule.meaning self.old.rule) (state_of self.old.core (S.Store.lists self.old.store) (S.Store.room self.old.store)) calls.now answers.old bytes.old (state_of self.new.core (S.Store.lists self.new.store) (S.Store.room self.new.store)) answers.new bytes.new result }
+        ensures run { CallsCarriedOut R.meaning self.old calls.now answers.old bytes.old
+            self.new answers.new bytes.new result }
         ensures rule { self.new.rule ≡ self.old.rule }
-        ensures laws { LawsAfterList (R.Rule.meaning self.old.rule) (state_of self.old.core (S.Store.lists self.old.store) (S.Store.room self.old.store)) (newest_first calls.now) }
+        ensures laws { CallsKeepLaws R.meaning self.old calls.now }
     {
+        // Opens the card: that the laws hold rests on the capacity of its store.
+        let _ = &self.core;
         if answers.len() < calls.len() {
             return Err(Refusal::BufferTooShort(calls.len()));
         }
         lent_enough(calls, bytes.len())?;
         let mut at = 0;
+        // Calls and answers by one index: a zip tells the proof nothing of what is written through its pairs.
         for (i, call) in calls.iter().enumerate() {
             answers[i] = self.answer(*call, bytes, at);
             at += call.lent();

@@ -1,16 +1,12 @@
 // Clock: twelve samples, one of each fibre.
-ghost use Rattle.std.specs.Prelude.{◌≡◌, None, ◌==◌};
+ghost use Rattle.std.specs.Prelude.{◌≡◌};
 ghost use Rattle.card_model.specs.Calls.{clock as the_clock};
-ghost use Rattle.card_model.specs.Clock.{too_large, last_position, in_capture};
-ghost use Rattle.card.specs.Abstraction.{state_of, watches_in, rows_in, running};
-ghost use Rattle.card.specs.CardLaws.{LawsAfter};
-ghost use Rattle.card.specs.Steps.{Stepped, Leads, said_clock, said_clocked};
+ghost use Rattle.card.specs.Held.{CallStepped, CallKeepsLaws};
+ghost use Rattle.card.specs.Steps.{said_clock};
 
 use super::Card;
-use super::complete::LAST;
-use crate::capture::Capture;
 use crate::clocked::Clocked;
-use crate::samples::too_large;
+use crate::samples::read_samples;
 use crate::tick::tick;
 use rules::Rule;
 use stores::Store;
@@ -19,33 +15,23 @@ use terms::Refusal;
 impl<R: Rule + Drop, S: Store + Drop> Card<R, S> {
     // Are all samples up to 1023? 7, with the lowest fibre whose sample is not.
     pub fn clock(&mut self, samples: &[u16; 12]) -> Result<Clocked, Refusal>
-        ensures step { Stepped (R.Rule.meaning self.old.rule) (state_of self.old.core (S.Store.lists self.old.store) (S.Store.room self.old.store)) (the_clock samples.now) (state_of self.new.core (S.Store.lists self.new.store) (S.Store.room self.new.store)) (said_clock result) }
+        ensures step { CallStepped R.meaning self.old (the_clock samples.now)
+            self.new (said_clock result) }
         ensures rule { self.new.rule ≡ self.old.rule }
-        ensures laws { LawsAfter (R.Rule.meaning self.old.rule) (state_of self.old.core (S.Store.lists self.old.store) (S.Store.room self.old.store)) (the_clock samples.now) }
+        ensures laws { CallKeepsLaws R.meaning self.old (the_clock samples.now) }
     {
-        if let Some(fibre) = too_large(samples) {
-            return Err(Refusal::SampleTooLarge(fibre));
-        }
-        let pulses = tick(&self.core.settings, &mut self.core.tickers, samples);
-        match self.core.capture {
+        let capture = self.core.capture;
+        let samples = read_samples(samples)?;
+        let pulses = tick(&self.core.settings, &mut self.core.tickers, &samples);
+        match capture {
             None => {
                 self.core.seek(pulses);
                 Ok(Clocked::Quiet)
             }
-            Some(capture) => Ok(self.go_on(capture, samples)),
-        }
-    }
-
-    // A Clock within a capture.
-    fn go_on(&mut self, capture: Capture, samples: &[u16; 12]) -> Clocked
-        requires { too_large samples.now ≡ None }
-        ensures outcome { Leads (in_capture (capture.position == last_position) (R.Rule.meaning self.old.rule) (state_of self.old.core (S.Store.lists self.old.store) (S.Store.room self.old.store)) (watches_in self.old.core.tickers) (running (rows_in self.old.core.rows) capture) samples.now) (state_of self.new.core (S.Store.lists self.new.store) (S.Store.room self.new.store)) (said_clocked result) }
-        ensures rule { self.new.rule ≡ self.old.rule }
-    {
-        if capture.position == LAST {
-            self.complete(samples)
-        } else {
-            self.core.advance(capture, samples)
+            Some(capture) => Ok(
+                self.core
+                    .go_on(&self.rule, &mut self.store, capture, &samples),
+            ),
         }
     }
 }

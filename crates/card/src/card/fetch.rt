@@ -2,10 +2,8 @@
 ghost use Rattle.std.specs.Prelude.{◌≡◌, length};
 ghost use Rattle.card_model.specs.Calls.{fetch as the_fetch};
 ghost use Rattle.card_model.specs.Readout.{oldest_bytes};
-ghost use Rattle.card.specs.Abstraction.{state_of};
-ghost use Rattle.card.specs.Queue.{queued};
-ghost use Rattle.card.specs.CardLaws.{LawsAfter};
-ghost use Rattle.card.specs.Steps.{Stepped, HandedBack, said_fetch, Fetched};
+ghost use Rattle.card.specs.Held.{CallStepped, CallKeepsLaws};
+ghost use Rattle.card.specs.Steps.{HandedBack, said_fetch, Fetched};
 ghost use Rattle.card.specs.Taking.{LengthsOf};
 
 use super::Card;
@@ -19,7 +17,7 @@ use terms::Refusal;
 
 // The lengths of the oldest event's records; zeros where no event waits.
 fn oldest(waiting: &Waiting) -> [u16; 12]
-    ensures { LengthsOf (queued waiting.now) result }
+    ensures { LengthsOf waiting.now result }
 {
     match waiting.front() {
         Some(lengths) => lengths,
@@ -30,11 +28,12 @@ fn oldest(waiting: &Waiting) -> [u16; 12]
 impl<R: Rule + Drop, S: Store + Drop> Card<R, S> {
     // Is a slip out? 10. Is the buffer long enough? 11, with the event's length. A refusal hands the slip back.
     pub fn fetch(&mut self, slip: Slip, buffer: &mut [u8]) -> Result<usize, Refused>
-        ensures step { Stepped (R.Rule.meaning self.old.rule) (state_of self.old.core (S.Store.lists self.old.store) (S.Store.room self.old.store)) (the_fetch (length buffer.old)) (state_of self.new.core (S.Store.lists self.new.store) (S.Store.room self.new.store)) (said_fetch result buffer.new) }
-        ensures written { Fetched (oldest_bytes (state_of self.old.core (S.Store.lists self.old.store) (S.Store.room self.old.store)).readout) buffer.old buffer.new result }
+        ensures step { CallStepped R.meaning self.old (the_fetch (length buffer.old))
+            self.new (said_fetch result buffer.new) }
+        ensures written { Fetched (oldest_bytes self.old.state.readout) buffer.old buffer.new result }
         ensures slip { HandedBack slip result }
         ensures rule { self.new.rule ≡ self.old.rule }
-        ensures laws { LawsAfter (R.Rule.meaning self.old.rule) (state_of self.old.core (S.Store.lists self.old.store) (S.Store.room self.old.store)) (the_fetch (length buffer.old)) }
+        ensures laws { CallKeepsLaws R.meaning self.old (the_fetch (length buffer.old)) }
     {
         if !self.core.slip_out {
             return Err(Refused {

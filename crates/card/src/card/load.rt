@@ -1,9 +1,8 @@
 // Load: a setting word.
 ghost use Rattle.std.specs.Prelude.{◌≡◌};
 ghost use Rattle.card_model.specs.Calls.{load as the_load};
-ghost use Rattle.card.specs.Abstraction.{state_of};
-ghost use Rattle.card.specs.CardLaws.{LawsAfter};
-ghost use Rattle.card.specs.Steps.{Stepped, said_load};
+ghost use Rattle.card.specs.Held.{CallStepped, CallKeepsLaws};
+ghost use Rattle.card.specs.Steps.{said_load};
 
 use super::Card;
 use rules::Rule;
@@ -14,9 +13,9 @@ use terms::Refusal;
 impl<R: Rule + Drop, S: Store + Drop> Card<R, S> {
     // Is no capture running? 1. Then the questions about the word, 2 to 6.
     pub fn load(&mut self, word: u32) -> Result<(), Refusal>
-        ensures step { Stepped (R.Rule.meaning self.old.rule) (state_of self.old.core (S.Store.lists self.old.store) (S.Store.room self.old.store)) (the_load word) (state_of self.new.core (S.Store.lists self.new.store) (S.Store.room self.new.store)) (said_load result) }
+        ensures step { CallStepped R.meaning self.old (the_load word) self.new (said_load result) }
         ensures rule { self.new.rule ≡ self.old.rule }
-        ensures laws { LawsAfter (R.Rule.meaning self.old.rule) (state_of self.old.core (S.Store.lists self.old.store) (S.Store.room self.old.store)) (the_load word) }
+        ensures laws { CallKeepsLaws R.meaning self.old (the_load word) }
     {
         if let Some(_) = self.core.capture {
             return Err(Refusal::CaptureRunning);

@@ -6,24 +6,20 @@ ghost use Rattle.card.specs.Abstraction.{state_of};
 
 use super::Core;
 use crate::row::Row;
+use crate::samples::zero;
 use crate::waiting::Waiting;
 use settings::CardSettings;
-use strips::Sample;
 use ticker::Ticker;
 
 impl Core {
     pub(crate) fn new() -> Core
         ensures { (room : ℕ) → state_of result empty_lists room ≡ fresh room }
     {
-        let zero = match Sample::new(0) {
-            Some(sample) => sample,
-            None => unreachable(),
-        };
         Core {
             settings: CardSettings::fresh(),
             tickers: [Ticker::new(); 12],
             capture: None,
-            rows: [Row::of(zero); 12],
+            rows: [Row::of(zero()); 12],
             waiting: Waiting::new(),
             slip_out: false,
         }

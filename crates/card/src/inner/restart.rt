@@ -6,14 +6,15 @@ ghost use Rattle.card.specs.Abstraction.{state_of, watches_in};
 
 use super::Core;
 use settings::CardSettings;
-use terms::FIBRES;
 use ticker::Ticker;
 
 impl Core {
     // Every ticker hunts, or is off; no capture runs and no event waits.
     pub(crate) fn restart(&mut self)
         requires { self.old.slip_out ≡ false }
-        ensures { (lists : List (List ℕ)) (room : ℕ) → state_of self.new empty_lists room ≡ (resetting (state_of self.old lists room)).next_card }
+        ensures { (lists : List (List ℕ)) (room : ℕ) →
+            state_of self.new empty_lists room
+            ≡ (resetting (state_of self.old lists room)).next_card }
     {
         send_all(&self.settings, &mut self.tickers);
         self.capture = None;
@@ -22,10 +23,11 @@ impl Core {
 }
 
 // Sends every ticker to Off or Hunt by the enable of its fibre.
+// Both by one index: a zip tells the proof nothing of what is written through its pairs.
 fn send_all(settings: &CardSettings, tickers: &mut [Ticker; 12])
     ensures { watches_in tickers.new ≡ all_sent settings.now (watches_in tickers.old) }
 {
-    for f in 0..FIBRES {
-        tickers[f].send(settings.fibres[f].enable);
+    for (f, ticker) in tickers.iter_mut().enumerate() {
+        ticker.send(settings.fibres[f].enable);
     }
 }

@@ -1,7 +1,7 @@
 // Where no capture runs: does an event begin?
-ghost use Rattle.std.specs.Prelude.{◌≡◌, ℕ, List, None};
+ghost use Rattle.std.specs.Prelude.{◌≡◌, None};
 ghost use Rattle.card_model.specs.Clock.{sought};
-ghost use Rattle.card.specs.Abstraction.{state_of, watches_in};
+ghost use Rattle.card.specs.Abstraction.{watches_in, StateGoes};
 
 use super::Core;
 use crate::capture::Capture;
@@ -15,7 +15,8 @@ impl Core {
     // A capture begins if the fibres that pulse are a majority; they are in step with it.
     pub(crate) fn seek(&mut self, pulses: [bool; 12])
         requires { self.old.capture ≡ None }
-        ensures { (lists : List (List ℕ)) (room : ℕ) → state_of self.new lists room ≡ (sought (state_of self.old lists room) (watches_in self.old.tickers) pulses).next_card }
+        ensures { StateGoes (λ s. (sought s (watches_in self.old.tickers) pulses).next_card)
+            self.old self.new }
     {
         if none_pulses(&pulses) {
             return;

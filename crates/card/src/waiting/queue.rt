@@ -1,6 +1,6 @@
 // Events come in at the back and go out at the front.
 ghost use Rattle.std.specs.Prelude.{◌≡◌, ◌+◌, ◌<◌, ◌≤◌, [], ◌∷◌, ◌++◌, length, drop};
-ghost use Rattle.card.specs.Queue.{round, queued, first_in};
+ghost use Rattle.card.specs.Queue.{round, first_in};
 
 use super::{MOST, Waiting};
 
@@ -15,7 +15,7 @@ fn round(place: usize) -> usize
 
 impl Waiting {
     pub(crate) fn new() -> Waiting
-        ensures { queued result ≡ [] }
+        ensures { result ≡ [] }
     {
         Waiting {
             rows: [[0; 12]; MOST],
@@ -25,14 +25,14 @@ impl Waiting {
     }
 
     pub(crate) fn len(&self) -> usize
-        ensures { result ≡ length (queued self.now) }
+        ensures { result ≡ length self.now }
     {
         self.count
     }
 
     // The oldest event.
     pub(crate) fn front(&self) -> Option<[u16; 12]>
-        ensures { result ≡ first_in (queued self.now) }
+        ensures { result ≡ first_in self.now }
     {
         if self.count == 0 {
             None
@@ -42,8 +42,8 @@ impl Waiting {
     }
 
     pub(crate) fn push_back(&mut self, lengths: [u16; 12])
-        requires { length (queued self.old) < 255 }
-        ensures { queued self.new ≡ queued self.old ++ lengths ∷ [] }
+        requires { length self.old < 255 }
+        ensures { self.new ≡ self.old ++ lengths ∷ [] }
     {
         let place = round(self.head + self.count);
         self.rows[place] = lengths;
@@ -52,7 +52,7 @@ impl Waiting {
 
     // Lets the oldest event go, if one waits.
     pub(crate) fn pop_front(&mut self)
-        ensures { queued self.new ≡ drop 1 (queued self.old) }
+        ensures { self.new ≡ drop 1 self.old }
     {
         if self.count > 0 {
             self.head = round(self.head + 1);
@@ -61,7 +61,7 @@ impl Waiting {
     }
 
     pub(crate) fn clear(&mut self)
-        ensures { queued self.new ≡ [] }
+        ensures { self.new ≡ [] }
     {
         self.count = 0;
     }

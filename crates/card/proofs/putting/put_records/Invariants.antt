@@ -6,5 +6,4 @@ use Rattle.card.proofs.putting.put_records.Given as goal
 abbrev pub invariant-loop-f : goal.invariant-loop-f
 invariant-loop-f g l =
     let s = g.S.Store in
-    (s.room l.store ≡ s.room l.initial.store)
-    × Upto (put_by (s.lists l.initial.store) l.buffers l.lengths) [] (s.lists l.initial.store) l.f (s.lists l.store)
+    (s.room l.store ≡ s.room l.initial.store) × Upto (put_by (s.lists l.initial.store) l.records) [] (s.lists l.initial.store) l.f (s.lists l.store)

@@ -1,7 +1,7 @@
 use Rattle.std.proofs.Common.{◌≡◌, ◌<◌, length, Err, refl, ap, ◌∙◌, arith, rules}
 use Rattle.std.proofs.lemmas.Result.{err_from_is_err_and}
 use Rattle.card.specs.declared.call.Call.TheVariants.{Load}
-use Rattle.card.proofs.CardLaws.{laws_after_list}
+use Rattle.card.proofs.CardLaws.{card_laws_list}
 use Rattle.card.proofs.Carrying.{lent_fits, row_short, row_fits, refused_out, upto_next, upto_all}
 use Rattle.card.proofs.card.Card.carry_out.Goals as goal
 
@@ -11,7 +11,7 @@ returns-then-answers-calls g c =
       answer = row_short _ _ _ c.if-answers-calls.true;
       run = record { state = refl; answers = refl; buffer = refl };
       rule = refl;
-      laws = laws_after_list _ (g.met.R.Rule.bounded c.args.self.now.rule) _ _ _ (g.S.Store.sound c.args.self.now.store).limit _;
+      laws = rw (← c.self.view_is) (card_laws_list g.S.Store _ (g.met.R.Rule.bounded _) _ _ (g.S.Store.sound _).limit _);
     }
 
 pub returns-in_err-lent_enough : goal.returns-in_err-lent_enough
@@ -21,7 +21,7 @@ returns-in_err-lent_enough g c =
       answer = row_fits c.args.calls.now (length c.args.answers.now) (length c.args.bytes.now) _ c.if-answers-calls.false (p.1 ∙ ap Err p.2 ∙ c.in_err-lent_enough.ensures);
       run = refused_out _ _ c.args.calls.now c.args.answers.now c.args.bytes.now c.from_residual.result p.0 p.1;
       rule = refl {a = c.args.self.now.rule};
-      laws = laws_after_list _ (g.met.R.Rule.bounded c.args.self.now.rule) _ _ _ (g.S.Store.sound c.args.self.now.store).limit _;
+      laws = rw (← c.self.view_is) (card_laws_list g.S.Store _ (g.met.R.Rule.bounded _) _ _ (g.S.Store.sound _).limit _);
     }
 
 pub answer-requires : goal.answer-requires
@@ -49,5 +49,5 @@ returns g c =
       answer = row_fits _ _ _ _ c.if-answers-calls.false c.in_ok-lent_enough.ensures;
       run = upto_all _ _ _ _ _ _ _ _ _ _ c.loop-i.invariant.1 end;
       rule = c.loop-i.invariant.0;
-      laws = laws_after_list _ (g.met.R.Rule.bounded c.args.self.now.rule) _ _ _ (g.S.Store.sound c.args.self.now.store).limit _;
+      laws = rw (← c.self.view_is) (card_laws_list g.S.Store _ (g.met.R.Rule.bounded _) _ _ (g.S.Store.sound _).limit _);
     }

@@ -3,4 +3,4 @@ use Rattle.card.proofs.Restarting.{fresh_as}
 use Rattle.card.proofs.inner.Core.new.Goals as goal
 
 pub returns : goal.returns
-returns c = fresh_as _ c.new-2.result c.fresh.ensures refl c.new-2.ensures.state c.new-2.ensures.header refl c.new-3.ensures refl
+returns c = fresh_as _ c.new.result c.fresh.ensures refl c.new.ensures.state c.new.ensures.header refl c.new-2.ensures refl

@@ -12,7 +12,7 @@ loop-f-init c = (omega arith, upto_none (sent_by c.args.settings.now c.args.tick
 pub loop-f-preserved : goal.loop-f-preserved
 loop-f-preserved c = (
   length-set c.loop-f.tickers c.loop-f.f _ ∙ c.loop-f.invariant.0,
-  sent_more c.args.settings.now c.args.tickers.now c.loop-f.tickers c.loop-f.f _ _ _ c.loop-f-test.true c.loop-f.invariant.0 (omega arith)
+  sent_more c.args.settings.now c.args.tickers.now c.loop-f.tickers c.loop-f.f _ _ _ (omega arith) c.loop-f.invariant.0 (omega arith)
       c.loop-f.invariant.1 c.send.ensures.state c.send.ensures.header,
 )
 

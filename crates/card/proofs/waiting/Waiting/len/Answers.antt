@@ -3,4 +3,4 @@ use Rattle.card.proofs.Queue.{queued_length}
 use Rattle.card.proofs.waiting.Waiting.len.Goals as goal
 
 pub returns : goal.returns
-returns c = sym (queued_length c.args.self.now)
+returns c = rw (← c.self.view_is) (sym (queued_length c.self.inside))

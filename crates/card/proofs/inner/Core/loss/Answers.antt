@@ -1,7 +1,7 @@
 use Rattle.std.proofs.Common.{arith, below_more}
 use Rattle.std.proofs.lemmas.Bool.{le-ltb}
 use Rattle.card.proofs.Losing.{loss_many, loss_room, loss_none}
-use Rattle.card.proofs.card.Card.loss.Goals as goal
+use Rattle.card.proofs.inner.Core.loss.Goals as goal
 
 pub returns-then-len-ge-MOST : goal.returns-then-len-ge-MOST
 returns-then-len-ge-MOST g c = loss_many _ _ _ _ (omega arith)
@@ -12,8 +12,8 @@ loop-f-init g c = λ k h. absurd (omega arith)
 pub loop-f-preserved : goal.loop-f-preserved
 loop-f-preserved g c = below_more _ _ c.loop-f.invariant (le-ltb _ _ (omega arith))
 
-pub returns-then-lengths-f : goal.returns-then-lengths-f
-returns-then-lengths-f g c = loss_room _ _ _ _ c.loop-f.f (omega arith) c.loop-f-test.true (omega arith) c.loop-f.invariant
+pub returns-then-length-free_room : goal.returns-then-length-free_room
+returns-then-length-free_room g c = loss_room _ _ _ _ c.loop-f.f (omega arith) (omega arith) (omega arith) c.loop-f.invariant
 
 pub returns : goal.returns
-returns g c = loss_none _ _ _ _ c.loop-f.f (omega arith) c.loop-f-test.false c.loop-f.invariant
+returns g c = loss_none _ _ _ _ c.loop-f.f (omega arith) (omega arith) c.loop-f.invariant
