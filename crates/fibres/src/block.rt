@@ -1,7 +1,7 @@
 // What a block of lines says of one fibre.
-use crate::numbers::read_row;
+use crate::numbers::{read_each, read_row};
 use rules::Fixed;
-use settings::FibreSettings;
+use settings::{FibreSettings, StripSettings};
 use strips::Sample;
 use terms::{CHIPS, Enable, Fibre, Pair, STRIPS};
 
@@ -67,10 +67,22 @@ fn take_setting(settings: &mut FibreSettings, name: &str, text: &str) -> Option<
 // Takes what is said of each strip.
 fn take_row(settings: &mut FibreSettings, name: &str, text: &str) -> Option<()> {
     match name {
-        "valid" => read_flags(text, &mut settings.valid),
-        "pedestals" => read_row(text, &mut settings.pedestals),
-        "thresh1" => read_row(text, &mut settings.thresh1),
-        "thresh2" => read_row(text, &mut settings.thresh2),
+        "valid" => read_flags(text, &mut settings.strips),
+        "pedestals" => read_each(
+            text,
+            &mut settings.strips,
+            |strip, number| strip.pedestal = number,
+        ),
+        "thresh1" => read_each(
+            text,
+            &mut settings.strips,
+            |strip, number| strip.thresh1 = number,
+        ),
+        "thresh2" => read_each(
+            text,
+            &mut settings.strips,
+            |strip, number| strip.thresh2 = number,
+        ),
         _ => None,
     }
 }
@@ -117,12 +129,12 @@ fn read_ranks(text: &str) -> Option<Pair<u8>> {
 }
 
 // A digit for each strip.
-fn read_flags(text: &str, flags: &mut [bool; STRIPS]) -> Option<()> {
+fn read_flags(text: &str, strips: &mut [StripSettings; STRIPS]) -> Option<()> {
     if text.len() != STRIPS {
         return None;
     }
-    for (flag, digit) in flags.iter_mut().zip(text.bytes()) {
-        *flag = match digit {
+    for (strip, digit) in strips.iter_mut().zip(text.bytes()) {
+        strip.valid = match digit {
             b'0' => false,
             b'1' => true,
             _ => return None,
