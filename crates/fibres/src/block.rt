@@ -1,9 +1,9 @@
 // What a block of lines says of one fibre.
 use crate::misread::Misread;
-use crate::numbers::read_row;
+use crate::numbers::{read_each, read_row};
 use chosen::ChosenRule;
 use rules::Fixed;
-use settings::FibreSettings;
+use settings::{FibreSettings, StripSettings};
 use strips::Sample;
 use terms::{CHIPS, Enable, Fibre, Pair, STRIPS};
 
@@ -54,10 +54,22 @@ fn take_setting(settings: &mut FibreSettings, name: &str, text: &str) -> Result<
 // Takes what is said of each strip.
 fn take_row(settings: &mut FibreSettings, name: &str, text: &str) -> Result<(), Misread> {
     match name {
-        "valid" => read_flags(text, &mut settings.valid),
-        "pedestals" => read_row(text, &mut settings.pedestals),
-        "thresh1" => read_row(text, &mut settings.thresh1),
-        "thresh2" => read_row(text, &mut settings.thresh2),
+        "valid" => read_flags(text, &mut settings.strips),
+        "pedestals" => read_each(
+            text,
+            &mut settings.strips,
+            |strip, number| strip.pedestal = number,
+        ),
+        "thresh1" => read_each(
+            text,
+            &mut settings.strips,
+            |strip, number| strip.thresh1 = number,
+        ),
+        "thresh2" => read_each(
+            text,
+            &mut settings.strips,
+            |strip, number| strip.thresh2 = number,
+        ),
         _ => Err(Misread),
     }
 }
@@ -113,12 +125,12 @@ fn read_ranks(text: &str) -> Result<Pair<u8>, Misread> {
 }
 
 // A digit for each strip.
-fn read_flags(text: &str, flags: &mut [bool; STRIPS]) -> Result<(), Misread> {
+fn read_flags(text: &str, strips: &mut [StripSettings; STRIPS]) -> Result<(), Misread> {
     if text.len() != STRIPS {
         return Err(Misread);
     }
-    for (flag, digit) in flags.iter_mut().zip(text.bytes()) {
-        *flag = flag_of(digit)?;
+    for (strip, digit) in strips.iter_mut().zip(text.bytes()) {
+        strip.valid = flag_of(digit)?;
     }
     Ok(())
 }

@@ -1,6 +1,6 @@
 -- How long a setting is in force, over whole runs of setting words.
 -- Assumes nothing.
-use Rattle.std.specs.Prelude.{◌≡◌, ℕ, ◌<◌, true, false, List, [], ◌∷◌, ◌++◌, slice_index, slice_index_or}
+use Rattle.std.specs.Prelude.{◌≡◌, ℕ, ◌<◌, true, List, [], ◌∷◌, ◌++◌}
 use Rattle.std.specs.List.{AllByRecursion}
 use Rattle.terms.specs.Terms.{part, side_number}
 use Rattle.settings.specs.declared.setting.Setting.{Setting}
@@ -8,7 +8,7 @@ use Rattle.settings.specs.declared.setting.Setting.TheVariants as settings
 use Rattle.settings.specs.declared.card.CardSettings.{CardSettings}
 use Rattle.settings.specs.declared.fibre.FibreSettings.{FibreSettings}
 use Rattle.settings.specs.Order.{in_order}
-use Rattle.settings.specs.Settings.{fresh_card, applied, of_fibre}
+use Rattle.settings.specs.Settings.{fresh_card, applied, of_fibre, of_strip}
 
 -- what a setting sets: its kind, its fibre, and its strip or side
 abbrev pub place : Setting → ℕ × ℕ × ℕ
@@ -26,11 +26,11 @@ InForce (settings.Tick fibre enable complement threshold) card =
     × ((of_fibre card fibre.index).complement ≡ complement)
     × ((of_fibre card fibre.index).threshold ≡ threshold.value)
 InForce (settings.Pedestal fibre strip valid pedestal) card =
-    (slice_index_or (of_fibre card fibre.index).valid strip false ≡ valid)
-    × (slice_index (of_fibre card fibre.index).pedestals strip ≡ pedestal.value)
+    ((of_strip (of_fibre card fibre.index) strip).valid ≡ valid)
+    × ((of_strip (of_fibre card fibre.index) strip).pedestal ≡ pedestal.value)
 InForce (settings.Thresholds fibre strip thresholds) card =
-    (slice_index (of_fibre card fibre.index).thresh1 strip ≡ thresholds.thresh1)
-    × (slice_index (of_fibre card fibre.index).thresh2 strip ≡ thresholds.thresh2)
+    ((of_strip (of_fibre card fibre.index) strip).thresh1 ≡ thresholds.thresh1)
+    × ((of_strip (of_fibre card fibre.index) strip).thresh2 ≡ thresholds.thresh2)
 InForce (settings.Rank fibre side rank) card = part (of_fibre card fibre.index).ranks side ≡ rank
 
 -- another setting has another place
@@ -66,8 +66,8 @@ FreshStays =
 abbrev pub InRange : FibreSettings → Type 0
 InRange fibre =
     (fibre.threshold < 32)
-    × ((strip : ℕ) → strip < 256 → slice_index fibre.pedestals strip < 1024)
-    × ((strip : ℕ) → strip < 256 → in_order (slice_index fibre.thresh1 strip) (slice_index fibre.thresh2 strip) ≡ true)
+    × ((strip : ℕ) → strip < 256 → (of_strip fibre strip).pedestal < 1024)
+    × ((strip : ℕ) → strip < 256 → in_order (of_strip fibre strip).thresh1 (of_strip fibre strip).thresh2 ≡ true)
 
 -- they are in range whatever settings came
 abbrev pub StaysInRange : Type 0

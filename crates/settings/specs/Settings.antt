@@ -12,6 +12,11 @@ use Rattle.settings.specs.declared.setting.Setting.{Setting}
 use Rattle.settings.specs.declared.setting.Setting.TheVariants as settings
 use Rattle.settings.specs.declared.card.CardSettings.{CardSettings}
 use Rattle.settings.specs.declared.fibre.FibreSettings.{FibreSettings}
+use Rattle.settings.specs.declared.strip.StripSettings.{StripSettings}
+
+-- a strip's settings in a card that was just made
+abbrev pub fresh_strip : StripSettings
+fresh_strip = record { valid = false; pedestal = 0; thresh1 = 255; thresh2 = 255 }
 
 -- a fibre's settings in a card that was just made
 abbrev pub fresh_fibre : FibreSettings
@@ -20,10 +25,7 @@ fresh_fibre =
       enable = Neither;
       complement = false;
       threshold = 16;
-      valid = replicate 256 false;
-      pedestals = replicate 256 0;
-      thresh1 = replicate 256 255;
-      thresh2 = replicate 256 255;
+      strips = replicate 256 fresh_strip;
       ranks = record { left = 128; right = 128 };
     }
 
@@ -38,40 +40,46 @@ with_tick enable complement threshold fibre =
       enable = enable;
       complement = complement;
       threshold = threshold;
-      valid = fibre.valid;
-      pedestals = fibre.pedestals;
-      thresh1 = fibre.thresh1;
-      thresh2 = fibre.thresh2;
+      strips = fibre.strips;
       ranks = fibre.ranks;
     }
+
+-- past the last strip stands nothing that is ever read
+abbrev pub no_strip : StripSettings
+no_strip = record { valid = false; pedestal = 0; thresh1 = 0; thresh2 = 0 }
+
+-- the settings of one strip of a fibre
+abbrev pub of_strip : FibreSettings → ℕ → StripSettings
+of_strip fibre strip = slice_index_or fibre.strips strip no_strip
+
+-- a fibre with one strip changed
+abbrev pub at_strip : ℕ → (StripSettings → StripSettings) → FibreSettings → FibreSettings
+at_strip strip change fibre =
+    record {
+      enable = fibre.enable;
+      complement = fibre.complement;
+      threshold = fibre.threshold;
+      strips = slice_set fibre.strips strip (change (of_strip fibre strip));
+      ranks = fibre.ranks;
+    }
+
+-- a strip with another valid flag and pedestal
+abbrev pub strip_with_pedestal : Bool → ℕ → StripSettings → StripSettings
+strip_with_pedestal valid pedestal old = record { valid = valid; pedestal = pedestal; thresh1 = old.thresh1; thresh2 = old.thresh2 }
 
 -- a fibre with another valid flag and pedestal of one strip
 abbrev pub with_pedestal : ℕ → Bool → ℕ → FibreSettings → FibreSettings
 with_pedestal strip valid pedestal fibre =
-    record {
-      enable = fibre.enable;
-      complement = fibre.complement;
-      threshold = fibre.threshold;
-      valid = slice_set fibre.valid strip valid;
-      pedestals = slice_set fibre.pedestals strip pedestal;
-      thresh1 = fibre.thresh1;
-      thresh2 = fibre.thresh2;
-      ranks = fibre.ranks;
-    }
+    at_strip strip (strip_with_pedestal valid pedestal) fibre
+
+-- a strip with other thresholds
+abbrev pub strip_with_thresholds : ℕ → ℕ → StripSettings → StripSettings
+strip_with_thresholds thresh1 thresh2 old = record { valid = old.valid; pedestal = old.pedestal; thresh1 = thresh1; thresh2 = thresh2 }
 
 -- a fibre with other thresholds of one strip
 abbrev pub with_thresholds : ℕ → ℕ → ℕ → FibreSettings → FibreSettings
 with_thresholds strip thresh1 thresh2 fibre =
-    record {
-      enable = fibre.enable;
-      complement = fibre.complement;
-      threshold = fibre.threshold;
-      valid = fibre.valid;
-      pedestals = fibre.pedestals;
-      thresh1 = slice_set fibre.thresh1 strip thresh1;
-      thresh2 = slice_set fibre.thresh2 strip thresh2;
-      ranks = fibre.ranks;
-    }
+    at_strip strip (strip_with_thresholds thresh1 thresh2) fibre
 
 -- a pair with another value on one side
 abbrev pub with_part : Side → ℕ → Pair ℕ → Pair ℕ
@@ -85,10 +93,7 @@ with_rank side rank fibre =
       enable = fibre.enable;
       complement = fibre.complement;
       threshold = fibre.threshold;
-      valid = fibre.valid;
-      pedestals = fibre.pedestals;
-      thresh1 = fibre.thresh1;
-      thresh2 = fibre.thresh2;
+      strips = fibre.strips;
       ranks = with_part side rank fibre.ranks;
     }
 

@@ -49,15 +49,17 @@ impl FibreSettings {
     fn set_pedestal(&mut self, strip: u8, valid: bool, pedestal: Pedestal)
         ensures { self.new ≡ with_pedestal strip valid pedestal.value self.old }
     {
-        self.valid[strip as usize] = valid;
-        self.pedestals[strip as usize] = pedestal.value;
+        let settings = &mut self.strips[usize::from(strip)];
+        settings.valid = valid;
+        settings.pedestal = pedestal.value;
     }
 
     fn set_thresholds(&mut self, strip: u8, thresholds: Thresholds)
         ensures { self.new ≡ with_thresholds strip thresholds.thresh1 thresholds.thresh2 self.old }
     {
-        self.thresh1[strip as usize] = thresholds.thresh1;
-        self.thresh2[strip as usize] = thresholds.thresh2;
+        let settings = &mut self.strips[usize::from(strip)];
+        settings.thresh1 = thresholds.thresh1;
+        settings.thresh2 = thresholds.thresh2;
     }
 
     fn set_rank(&mut self, side: Side, rank: u8)

@@ -9,6 +9,7 @@ pub mod laws;
 pub mod mode;
 pub mod parts;
 pub mod setting;
+pub mod strip;
 #[cfg(test)]
 mod tests;
 pub mod word;
@@ -18,3 +19,4 @@ pub use fibre::FibreSettings;
 pub use mode::Mode;
 pub use parts::{Pedestal, Thresholds, TickThreshold};
 pub use setting::Setting;
+pub use strip::StripSettings;

@@ -13,6 +13,7 @@ use Rattle.terms.specs.declared.pair.Side.TheVariants.{Left, Right}
 use Rattle.terms.specs.Terms.{chip_number, part, side_number}
 use Rattle.rules.specs.Rules.{Meaning, InRange}
 use Rattle.settings.specs.declared.fibre.FibreSettings.{FibreSettings}
+use Rattle.settings.specs.Settings.{of_strip}
 use Rattle.settings.specs.declared.mode.Mode.TheVariants as modes
 use Rattle.layout.specs.declared.kind.Kind.TheVariants as kinds
 use Rattle.layout.specs.declared.run.Run.{Run}
@@ -40,7 +41,7 @@ flat_most p u h = grind (arith, nat_tests)
 
 pub flat_value_most : (fibre : FibreSettings) (samples : List ℕ) → AllByRecursion TenBits samples → (s : ℕ) → flat_value fibre samples s ≤ 1023
 flat_value_most fibre samples h s =
-    flat_most (get_or fibre.pedestals s 0) (level fibre samples s)
+    flat_most (of_strip fibre s).pedestal (level fibre samples s)
     (turned_most fibre.complement (get_or samples (place_of s) 0) (all_at TenBits samples (place_of s) h (omega arith)))
 
 reduced_most : (b : Bool) (m v : ℕ) → reduced b m v < 256

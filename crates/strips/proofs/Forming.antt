@@ -14,6 +14,7 @@ use Rattle.terms.specs.declared.pair.Side.TheVariants.{Left, Right}
 use Rattle.terms.specs.Terms.{part, side_number, chip_number}
 use Rattle.rules.specs.Rules.{Meaning}
 use Rattle.settings.specs.declared.fibre.FibreSettings.{FibreSettings}
+use Rattle.settings.specs.Settings.{of_strip}
 use Rattle.settings.specs.declared.mode.Mode.{Mode}
 use Rattle.layout.specs.declared.run.Run.{Run}
 use Rattle.layout.specs.Limits.{at_most}
@@ -71,14 +72,14 @@ value_is fibre m flats s b side mode v eb eside emode ev =
 
 -- and what it reaches
 pub reached_is : (fibre : FibreSettings) (s : ℕ) (b : Bool) (v w : ℕ) (one two : Bool) → b ≡ counts fibre s → v ≡ w
-    → one ≡ reaches b (get_or fibre.thresh1 s 0) v → two ≡ reaches b (get_or fibre.thresh2 s 0) v
+    → one ≡ reaches b (of_strip fibre s).thresh1 v → two ≡ reaches b (of_strip fibre s).thresh2 v
     → ◌≡◌ {A = Reached} (record { thresh1 = one; thresh2 = two }) (reached_by fibre w s)
 reached_is fibre s b v w one two eb ev e1 e2 =
-    let first : one ≡ reaches (counts fibre s) (get_or fibre.thresh1 s 0) w =
-    e1 ∙ (ap (λ (x : Bool). reaches x (get_or fibre.thresh1 s 0) v) eb ∙ ap (reaches (counts fibre s) (get_or fibre.thresh1 s 0)) ev)
+    let first : one ≡ reaches (counts fibre s) (of_strip fibre s).thresh1 w =
+    e1 ∙ (ap (λ (x : Bool). reaches x (of_strip fibre s).thresh1 v) eb ∙ ap (reaches (counts fibre s) (of_strip fibre s).thresh1) ev)
     in
-    let second : two ≡ reaches (counts fibre s) (get_or fibre.thresh2 s 0) w =
-    e2 ∙ (ap (λ (x : Bool). reaches x (get_or fibre.thresh2 s 0) v) eb ∙ ap (reaches (counts fibre s) (get_or fibre.thresh2 s 0)) ev)
+    let second : two ≡ reaches (counts fibre s) (of_strip fibre s).thresh2 w =
+    e2 ∙ (ap (λ (x : Bool). reaches x (of_strip fibre s).thresh2 v) eb ∙ ap (reaches (counts fibre s) (of_strip fibre s).thresh2) ev)
     in
     cc
 

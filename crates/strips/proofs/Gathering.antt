@@ -10,6 +10,7 @@ use Rattle.terms.specs.declared.pair.Side.{Side}
 use Rattle.terms.specs.declared.pair.Side.TheVariants.{Left, Right}
 use Rattle.terms.specs.Terms.{enabled, side_number}
 use Rattle.settings.specs.declared.fibre.FibreSettings.{FibreSettings}
+use Rattle.settings.specs.Settings.{of_strip}
 use Rattle.strips.specs.Fibre.{side_of, counts, counted_strips, counted_values}
 
 -- the strips from first up to strip that count
@@ -26,7 +27,7 @@ on_chip Left s low high = simp (lt-ltb s 128 (omega arith))
 on_chip Right s low high = simp (le-ltb s 128 (omega arith))
 
 -- on an enabled chip the valid strips count, on another none does
-pub counts_valid : (fibre : FibreSettings) (side : Side) (s : ℕ) → side_of s ≡ side → enabled fibre.enable side ≡ true → counts fibre s ≡ get_or fibre.valid s false
+pub counts_valid : (fibre : FibreSettings) (side : Side) (s : ℕ) → side_of s ≡ side → enabled fibre.enable side ≡ true → counts fibre s ≡ (of_strip fibre s).valid
 counts_valid fibre side s on e = rw (on, e)
 
 counts_none : (fibre : FibreSettings) (side : Side) (s : ℕ) → side_of s ≡ side → enabled fibre.enable side ≡ false → counts fibre s ≡ false
@@ -81,7 +82,7 @@ module _ (fibre : FibreSettings) (values got : List ℕ) (first strip : ℕ) (lo
 
 -- on an enabled chip a strip counts where it is valid
 pub counts_as_valid : (fibre : FibreSettings) (side : Side) (first s : ℕ) (b : Bool) → first ≡ 128 * side_number side → first ≤ s → s < first + 128
-    → enabled fibre.enable side ≡ true → get_or fibre.valid s false ≡ b → counts fibre s ≡ b
+    → enabled fibre.enable side ≡ true → (of_strip fibre s).valid ≡ b → counts fibre s ≡ b
 counts_as_valid fibre side first s b at low high on is =
     counts_valid fibre side s (on_chip side s (omega arith) (omega arith)) on ∙ is
 

@@ -5,6 +5,7 @@ use Rattle.std.specs.List.{range_with_len}
 use Rattle.std.proofs.lemmas.List.FromFn.{fill_by_all}
 use Rattle.std.proofs.lemmas.List.{get_or-map}
 use Rattle.settings.specs.declared.fibre.FibreSettings.{FibreSettings}
+use Rattle.settings.specs.Settings.{of_strip}
 use Rattle.strips.specs.declared.sample.Sample.{Sample}
 use Rattle.strips.specs.Order.{strip_at, place_of}
 use Rattle.strips.specs.Values.{turned, flat}
@@ -40,7 +41,7 @@ filled_all f row p long past filled =
 
 -- the flat value at the strip of a place is that of the place's sample
 pub flat_at_place : (fibre : FibreSettings) (samples : List Sample) (p strip v : ℕ) (d : Sample) → p < 256 → p < length samples → strip ≡ strip_at p
-    → v ≡ flat (get_or fibre.pedestals strip 0) (turned fibre.complement (get_or samples p d).value)
+    → v ≡ flat (of_strip fibre strip).pedestal (turned fibre.complement (get_or samples p d).value)
     → v ≡ flat_value fibre (numbers samples) (strip_at p)
 flat_at_place fibre samples p strip v d h inside at e =
     let number : get_or (numbers samples) (place_of (strip_at p)) 0 ≡ (get_or samples p d).value =
@@ -48,5 +49,5 @@ flat_at_place fibre samples p strip v d h inside at e =
     ∙ get_or-map (λ (y : Sample). y.value) samples p d 0 inside
     in
     e
-    ∙ (ap (λ (s : ℕ). flat (get_or fibre.pedestals s 0) (turned fibre.complement (get_or samples p d).value)) at
-    ∙ ap (λ (n : ℕ). flat (get_or fibre.pedestals (strip_at p) 0) (turned fibre.complement n)) (sym number))
+    ∙ (ap (λ (s : ℕ). flat (of_strip fibre s).pedestal (turned fibre.complement (get_or samples p d).value)) at
+    ∙ ap (λ (n : ℕ). flat (of_strip fibre (strip_at p)).pedestal (turned fibre.complement n)) (sym number))

@@ -1,6 +1,6 @@
 -- Shifted inputs give shifted zero-suppressed records.
 -- Assumes nothing.
-use Rattle.std.proofs.Common.{◌≡◌, ℕ, ◌-◌, ◌*◌, ◌/◌, ◌<◌, ◌≤◌, min, Bool, true, false, ltb, List, [], ◌∷◌, map, length, get_or, ℤ, pos, ◌+ℤ◌, sym, refl, ap, ◌∙◌, subst, ⊎_elim, arith}
+use Rattle.std.proofs.Common.{◌≡◌, ℕ, ◌-◌, ◌*◌, ◌/◌, ◌<◌, ◌≤◌, min, Bool, true, false, ltb, List, [], ◌∷◌, map, length, ℤ, pos, ◌+ℤ◌, sym, refl, ap, ◌∙◌, subst, ⊎_elim, arith}
 use Rattle.std.specs.List.{range_with_len, AllByRecursion}
 use Rattle.std.proofs.ByRecursion.{All-map, All-weaker}
 use Rattle.std.proofs.lemmas.List.{length-map}
@@ -13,6 +13,7 @@ use Rattle.terms.specs.declared.pair.Side.TheVariants.{Left, Right}
 use Rattle.terms.specs.Terms.{chip_number, part, side_number}
 use Rattle.rules.specs.Rules.{Meaning, Shifted, ShiftLaw}
 use Rattle.settings.specs.declared.fibre.FibreSettings.{FibreSettings}
+use Rattle.settings.specs.Settings.{of_strip}
 use Rattle.layout.specs.declared.kind.Kind.TheVariants as kinds
 use Rattle.layout.specs.Event.{Cluster, suppressed, record_bytes}
 use Rattle.layout.specs.Contents.{cluster_on}
@@ -96,7 +97,7 @@ module _ (fibre : FibreSettings) (c : Side → ℤ) (xs ys : List ℕ) (sh : Shi
       × (flat_value fibre ys s ≤ 1022)
       × (pos (flat_value fibre ys s) ≡ pos (flat_value fibre xs s) +ℤ c (side_of s))
   flats s h e =
-      let p : ℕ = get_or fibre.pedestals s 0 in
+      let p : ℕ = (of_strip fibre s).pedestal in
       let above = sh.from_pedestal s h e in
       let scale = sh.on_scale s h e in (
         flat_small p (level fibre xs s) scale.0,

@@ -1,6 +1,6 @@
 -- The values of a fibre's strips, its clusters, and the record that is formed of them.
 -- Assumes nothing.
-use Rattle.std.specs.Prelude.{ℕ, ◌*◌, Bool, false, cond, ◌&&◌, List, [], ◌∷◌, map, filter, nat_lt, slice_index, slice_index_or}
+use Rattle.std.specs.Prelude.{ℕ, ◌*◌, Bool, cond, ◌&&◌, List, [], ◌∷◌, map, filter, nat_lt, slice_index}
 use Rattle.std.specs.List.{range_with_len}
 use Rattle.terms.specs.declared.pair.Pair.{Pair}
 use Rattle.terms.specs.declared.pair.Side.{Side}
@@ -8,6 +8,7 @@ use Rattle.terms.specs.declared.pair.Side.TheVariants.{Left, Right}
 use Rattle.terms.specs.Terms.{enabled, part, side_number, chip_number}
 use Rattle.rules.specs.Rules.{Meaning}
 use Rattle.settings.specs.declared.fibre.FibreSettings.{FibreSettings}
+use Rattle.settings.specs.Settings.{of_strip}
 use Rattle.settings.specs.declared.mode.Mode.{Mode}
 use Rattle.settings.specs.declared.mode.Mode.TheVariants as modes
 use Rattle.layout.specs.declared.kind.Kind.{Kind}
@@ -30,7 +31,7 @@ side_of s = cond (nat_lt s 128) Left Right
 
 -- a strip counts if it is valid and its chip enabled
 abbrev pub counts : FibreSettings → ℕ → Bool
-counts fibre s = enabled fibre.enable (side_of s) && slice_index_or fibre.valid s false
+counts fibre s = enabled fibre.enable (side_of s) && (of_strip fibre s).valid
 
 -- the samples as numbers, in place order
 abbrev pub numbers : List Sample → List ℕ
@@ -42,7 +43,7 @@ level fibre samples s = turned fibre.complement (slice_index samples (place_of s
 
 -- the flat value of a strip
 abbrev pub flat_value : FibreSettings → List ℕ → ℕ → ℕ
-flat_value fibre samples s = flat (slice_index fibre.pedestals s) (level fibre samples s)
+flat_value fibre samples s = flat (of_strip fibre s).pedestal (level fibre samples s)
 
 -- the flat values of all strips
 abbrev pub flat_values : FibreSettings → List ℕ → List ℕ
@@ -84,8 +85,8 @@ reduced_value fibre m samples s = reduced (counts fibre s) (part m (side_of s)) 
 abbrev pub reached_by : FibreSettings → ℕ → ℕ → Reached
 reached_by fibre value s =
     record {
-      thresh1 = reaches (counts fibre s) (slice_index fibre.thresh1 s) value;
-      thresh2 = reaches (counts fibre s) (slice_index fibre.thresh2 s) value;
+      thresh1 = reaches (counts fibre s) (of_strip fibre s).thresh1 value;
+      thresh2 = reaches (counts fibre s) (of_strip fibre s).thresh2 value;
     }
 
 -- the reduced values of all strips, out of their flat values

@@ -6,6 +6,7 @@ use Rattle.terms.specs.declared.pair.Side.{Side}
 use Rattle.terms.specs.declared.pair.Side.TheVariants.{Left, Right}
 use Rattle.rules.specs.Rules.{Meaning, InRange, ShiftLaw}
 use Rattle.settings.specs.declared.fibre.FibreSettings.{FibreSettings}
+use Rattle.settings.specs.Settings.{of_strip}
 use Rattle.settings.specs.declared.mode.Mode.{Mode}
 use Rattle.settings.specs.declared.mode.Mode.TheVariants.{ZeroSuppression}
 use Rattle.layout.specs.Event.{ContentOk, TenBits}
@@ -27,7 +28,7 @@ RecordsOfTheLayout =
 pub record ShiftedFibre (fibre : FibreSettings) (c : Side → ℤ) (xs ys : List ℕ) : Type 0 where
   pub by_constant : (s : ℕ) → s < 256 → counts fibre s ≡ true → pos (level fibre ys s) ≡ pos (level fibre xs s) +ℤ c (side_of s)
   pub from_pedestal : (s : ℕ) → s < 256 → counts fibre s ≡ true
-      → (slice_index fibre.pedestals s ≤ level fibre xs s) × (slice_index fibre.pedestals s ≤ level fibre ys s)
+      → ((of_strip fibre s).pedestal ≤ level fibre xs s) × ((of_strip fibre s).pedestal ≤ level fibre ys s)
   pub on_scale : (s : ℕ) → s < 256 → counts fibre s ≡ true → (level fibre xs s ≤ 1022) × (level fibre ys s ≤ 1022)
   pub none_counts : (side : Side) → ((s : ℕ) → s < 256 → side_of s ≡ side → counts fibre s ≢ true) → c side ≡ pos 0
 

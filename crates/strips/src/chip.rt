@@ -32,5 +32,5 @@ pub(crate) fn counts(settings: &FibreSettings, strip: usize) -> bool
     requires { strip < 256 }
     ensures { result ≡ counts settings.now strip }
 {
-    settings.enable.has(side_of(strip)) && settings.valid[strip]
+    settings.enable.has(side_of(strip)) && settings.strips[strip].valid
 }

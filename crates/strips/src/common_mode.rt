@@ -24,7 +24,7 @@ fn counted_values(
     }
     let first = first_strip(side);
     for strip in first..first + CHIP_STRIPS {
-        let valid = settings.valid[strip];
+        let valid = settings.strips[strip].valid;
         if valid {
             values.push(flats.values[strip]);
         }

@@ -40,7 +40,11 @@ pub(crate) fn flat_values(settings: &FibreSettings, samples: &[Sample; STRIPS]) 
     let mut flats = [0; STRIPS];
     for (place, sample) in samples.iter().enumerate() {
         let strip = usize::from(strip_of_place(place as u8));
-        flats[strip] = flat_value(*sample, settings.complement, settings.pedestals[strip]);
+        flats[strip] = flat_value(
+            *sample,
+            settings.complement,
+            settings.strips[strip].pedestal,
+        );
     }
     FlatValues { values: flats }
 }

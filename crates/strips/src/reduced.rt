@@ -52,10 +52,11 @@ pub(crate) fn reduce(settings: &FibreSettings, modes: Pair<u16>, flats: &FlatVal
     for (strip, flat) in flats.values.iter().enumerate() {
         let counts = counts(settings, strip);
         let value = reduced_value(counts, *modes.of(side_of(strip)), *flat);
+        let own = settings.strips[strip];
         values[strip] = value;
         reached[strip] = Reached {
-            thresh1: reaches(counts, settings.thresh1[strip], value),
-            thresh2: reaches(counts, settings.thresh2[strip], value),
+            thresh1: reaches(counts, own.thresh1, value),
+            thresh2: reaches(counts, own.thresh2, value),
         };
     }
     Reduced { values, reached }

@@ -10,7 +10,7 @@ use Rattle.terms.specs.declared.pair.Side.TheVariants.{Left, Right}
 use Rattle.settings.specs.declared.fibre.FibreSettings.{FibreSettings}
 use Rattle.settings.specs.declared.mode.Mode.{Mode}
 use Rattle.settings.specs.declared.mode.Mode.TheVariants.{ZeroSuppression, ProcessedRaw, VirginRaw}
-use Rattle.settings.specs.Settings.{of_fibre}
+use Rattle.settings.specs.Settings.{of_fibre, of_strip}
 use Rattle.ticker.specs.Step.{judged}
 use Rattle.strips.specs.Fibre.{side_of, counts, level}
 use Rattle.strips.specs.Laws.{ShiftedFibre}
@@ -88,20 +88,20 @@ on_scale_if pedestal u e =
 abbrev shifted_strip : FibreSettings → (Side → ℤ) → List ℕ → List ℕ → ℕ → Bool
 shifted_strip fibre c us vs k =
     same_number (pos (level fibre vs k)) (pos (level fibre us k) +ℤ c (side_of k))
-    && (on_scale (get_or fibre.pedestals k 0) (level fibre us k) && on_scale (get_or fibre.pedestals k 0) (level fibre vs k))
+    && (on_scale (of_strip fibre k).pedestal (level fibre us k) && on_scale (of_strip fibre k).pedestal (level fibre vs k))
 
 abbrev strip_test : FibreSettings → (Side → ℤ) → List ℕ → List ℕ → ℕ → Bool
 strip_test fibre c us vs k = not (counts fibre k) || shifted_strip fibre c us vs k
 
 record StripAlike (fibre : FibreSettings) (c : Side → ℤ) (us vs : List ℕ) (k : ℕ) : Type 0 where
   moved : pos (level fibre vs k) ≡ pos (level fibre us k) +ℤ c (side_of k)
-  in_card : (get_or fibre.pedestals k 0 ≤ level fibre us k) × (level fibre us k ≤ 1022)
-  in_twin : (get_or fibre.pedestals k 0 ≤ level fibre vs k) × (level fibre vs k ≤ 1022)
+  in_card : ((of_strip fibre k).pedestal ≤ level fibre us k) × (level fibre us k ≤ 1022)
+  in_twin : ((of_strip fibre k).pedestal ≤ level fibre vs k) × (level fibre vs k ≤ 1022)
 
 strip_if : (fibre : FibreSettings) (c : Side → ℤ) (us vs : List ℕ) (k : ℕ) → strip_test fibre c us vs k ≡ true → counts fibre k ≡ true
     → StripAlike fibre c us vs k
 strip_if fibre c us vs k e counted =
-    let pedestal = get_or fibre.pedestals k 0 in
+    let pedestal = (of_strip fibre k).pedestal in
     let p = and_parts (same_number (pos (level fibre vs k)) (pos (level fibre us k) +ℤ c (side_of k)))
     (on_scale pedestal (level fibre us k) && on_scale pedestal (level fibre vs k))
     (so_if (counts fibre k) (shifted_strip fibre c us vs k) e counted) in

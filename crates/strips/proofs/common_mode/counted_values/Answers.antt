@@ -1,4 +1,5 @@
-use Rattle.std.proofs.Common.{◌≡◌, ◌+◌, Bool, get_or, false, map, sym, ap, ◌∙◌, arith}
+use Rattle.std.proofs.Common.{◌≡◌, ◌+◌, Bool, get_or, map, sym, ap, ◌∙◌, arith}
+use Rattle.settings.specs.Settings.{of_strip}
 use Rattle.strips.specs.Fibre.{counts}
 use Rattle.strips.proofs.Gathering.{none_counted, counts_as_valid, gathered_few, gathered_one, gathered_none, gathered_all}
 use Rattle.strips.proofs.common_mode.counted_values.Goals as goal
@@ -21,7 +22,7 @@ loop-strip-preserved c =
     let got = c.loop-strip.values.items in
     let first = c.first_strip-first.result in
     let strip = c.loop-strip.strip in
-    let counted : (b : Bool) → get_or fibre.valid strip false ≡ b → counts fibre strip ≡ b =
+    let counted : (b : Bool) → (of_strip fibre strip).valid ≡ b → counts fibre strip ≡ b =
     λ b is. counts_as_valid fibre c.args.side first strip b c.first_strip-first.ensures (omega arith) (omega arith) (sym c.if-not-has.ensures) is in
     elim c.if-valid.branch [
       | then-valid w ↦ ap (λ v. v.items) w.values-is ∙ w.push.ensures.items ∙ gathered_one fibre flats got first strip (omega arith) c.loop-strip.invariant (counted _ w.if-valid.true)
