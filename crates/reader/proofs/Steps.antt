@@ -72,24 +72,20 @@ record_fits first at (lo ∷ hi ∷ c ∷ xs) l h =
 -- one record is passed over with all its bytes
 pub record_passed :
     (first : Option Kind) (old new : RecordReader) (size : ℕ) (kind : Kind) →
-    3 ≤ length old.left.now →
-    size ≡ number_in (get_or old.left.now 0 0) (get_or old.left.now 1 0) →
-    Ok tt ≡ verdict (record_there (option_map code first) old.at old.left.now) →
-    get_or old.left.now 2 0 ≡ code kind →
+    3 ≤ length old.left.bytes.now →
+    size ≡ number_in (get_or old.left.bytes.now 0 0) (get_or old.left.bytes.now 1 0) →
+    Ok tt ≡ verdict (record_there (option_map code first) old.left.at old.left.bytes.now) →
+    get_or old.left.bytes.now 2 0 ≡ code kind →
     ((f : Kind) → first ≡ Some f → kind ≡ f) →
-    new.left.now ≡ drop size old.left.now →
-    new.at ≡ old.at + size →
+    new.left.bytes.now ≡ drop size old.left.bytes.now →
+    new.left.at ≡ old.left.at + size →
     Passed first old new kind
 record_passed first old new size kind long said there is same left at =
-    let xs : List ℕ = old.left.now in
+    let xs : List ℕ = old.left.bytes.now in
     let codes : Option ℕ = option_map code first in
-    let fits = record_fits codes old.at xs long there in
-    let rest : length new.left.now ≡ length xs - size = ap length left ∙ length-drop size xs in
-    let sum : old.at + size + (length xs - size) ≡ old.at + length xs = omega (arith, fits.1, said) in
-    let next : (n : ℕ) → ends (suc n) first old ≡ ok_map ends_at (read_records n (Some (code kind)) (old.at + size) (drop size xs)) = λ n. records_next (suc n) n codes old.at xs refl long there ∙ ap₂ (λ k c. ok_map ends_at (read_records n (Some c) (old.at + k) (drop k xs))) (sym said) is in
+    let next : (n : ℕ) → ends (suc n) first old ≡ ok_map ends_at (read_records n (Some (code kind)) (old.left.at + size) (drop size xs)) = λ n. records_next (suc n) n codes old.left.at xs refl long there ∙ ap₂ (λ k c. ok_map ends_at (read_records n (Some c) (old.left.at + k) (drop k xs))) (sym said) is in
     record {
       others = λ n. next n ∙ ap₂ (λ a ys. ok_map ends_at (read_records n (Some (code kind)) a ys)) (sym at) (sym left);
-      within = ap₂ (λ a b. a + b) at rest ∙ sum;
       code_is = is;
       same = same;
     }
