@@ -58,17 +58,6 @@ records_next n m first at (lo ∷ hi ∷ c ∷ xs) e l h =
     ∙ (end_map got.0 (read_records m (Some c) (at + size) (drop (size - 3) xs))
     ∙ ap (λ k. ok_map ends_at (read_records m (Some c) (at + size) (drop k (lo ∷ hi ∷ c ∷ xs)))) split))
 
--- the length of a record that was read lies in the input
-pub record_fits : (first : Option ℕ) (at : ℕ) (xs : List ℕ) → 3 ≤ length xs → Ok tt ≡ verdict (record_there first at xs) → (7 ≤ number_in (get_or xs 0 0) (get_or xs 1 0)) × (number_in (get_or xs 0 0) (get_or xs 1 0) ≤ length xs)
-record_fits first at [] l h = absurd (omega arith)
-record_fits first at (a ∷ []) l h = absurd (omega arith)
-record_fits first at (a ∷ b ∷ []) l h = absurd (omega arith)
-record_fits first at (lo ∷ hi ∷ c ∷ xs) l h =
-    let size : ℕ = number_in lo hi in
-    let got = content_from (read_record first at size c xs) h in
-    let is = record_at first at size c xs got.0 got.1 in
-    (omega (arith, seven is.kind, is.from_shortest), omega (arith, is.inside))
-
 -- one record is passed over with all its bytes
 pub record_passed :
     (first : Option Kind) (old new : RecordReader) (size : ℕ) (kind : Kind) →
