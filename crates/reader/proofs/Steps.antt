@@ -1,6 +1,6 @@
 -- One step of each reader: what its questions come to where they are answered yes.
 -- Assumes nothing.
-use Rattle.std.proofs.Common.{◌≡◌, ℕ, suc, ◌+◌, ◌-◌, ◌≤◌, Bool, true, false, List, [], ◌∷◌, length, get_or, drop, Some, Ok, Err, Option, Result, sym, refl, ap, ◌∙◌, ap₂, arith, length-drop}
+use Rattle.std.proofs.Common.{◌≡◌, ℕ, suc, ◌+◌, ◌-◌, ◌≤◌, Bool, true, false, List, [], ◌∷◌, length, get_or, drop, Some, Ok, Err, Option, Result, sym, refl, ap, ◌∙◌, ap₂, arith}
 use Rattle.layout.specs.declared.kind.Kind.{Kind}
 use Rattle.layout.specs.declared.run.Run.{Run}
 use Rattle.std.specs.Option.{option_map}
@@ -58,38 +58,23 @@ records_next n m first at (lo ∷ hi ∷ c ∷ xs) e l h =
     ∙ (end_map got.0 (read_records m (Some c) (at + size) (drop (size - 3) xs))
     ∙ ap (λ k. ok_map ends_at (read_records m (Some c) (at + size) (drop k (lo ∷ hi ∷ c ∷ xs)))) split))
 
--- the length of a record that was read lies in the input
-pub record_fits : (first : Option ℕ) (at : ℕ) (xs : List ℕ) → 3 ≤ length xs → Ok tt ≡ verdict (record_there first at xs) → (7 ≤ number_in (get_or xs 0 0) (get_or xs 1 0)) × (number_in (get_or xs 0 0) (get_or xs 1 0) ≤ length xs)
-record_fits first at [] l h = absurd (omega arith)
-record_fits first at (a ∷ []) l h = absurd (omega arith)
-record_fits first at (a ∷ b ∷ []) l h = absurd (omega arith)
-record_fits first at (lo ∷ hi ∷ c ∷ xs) l h =
-    let size : ℕ = number_in lo hi in
-    let got = content_from (read_record first at size c xs) h in
-    let is = record_at first at size c xs got.0 got.1 in
-    (omega (arith, seven is.kind, is.from_shortest), omega (arith, is.inside))
-
 -- one record is passed over with all its bytes
 pub record_passed :
     (first : Option Kind) (old new : RecordReader) (size : ℕ) (kind : Kind) →
-    3 ≤ length old.left.now →
-    size ≡ number_in (get_or old.left.now 0 0) (get_or old.left.now 1 0) →
-    Ok tt ≡ verdict (record_there (option_map code first) old.at old.left.now) →
-    get_or old.left.now 2 0 ≡ code kind →
+    3 ≤ length old.left.bytes.now →
+    size ≡ number_in (get_or old.left.bytes.now 0 0) (get_or old.left.bytes.now 1 0) →
+    Ok tt ≡ verdict (record_there (option_map code first) old.left.at old.left.bytes.now) →
+    get_or old.left.bytes.now 2 0 ≡ code kind →
     ((f : Kind) → first ≡ Some f → kind ≡ f) →
-    new.left.now ≡ drop size old.left.now →
-    new.at ≡ old.at + size →
+    new.left.bytes.now ≡ drop size old.left.bytes.now →
+    new.left.at ≡ old.left.at + size →
     Passed first old new kind
 record_passed first old new size kind long said there is same left at =
-    let xs : List ℕ = old.left.now in
+    let xs : List ℕ = old.left.bytes.now in
     let codes : Option ℕ = option_map code first in
-    let fits = record_fits codes old.at xs long there in
-    let rest : length new.left.now ≡ length xs - size = ap length left ∙ length-drop size xs in
-    let sum : old.at + size + (length xs - size) ≡ old.at + length xs = omega (arith, fits.1, said) in
-    let next : (n : ℕ) → ends (suc n) first old ≡ ok_map ends_at (read_records n (Some (code kind)) (old.at + size) (drop size xs)) = λ n. records_next (suc n) n codes old.at xs refl long there ∙ ap₂ (λ k c. ok_map ends_at (read_records n (Some c) (old.at + k) (drop k xs))) (sym said) is in
+    let next : (n : ℕ) → ends (suc n) first old ≡ ok_map ends_at (read_records n (Some (code kind)) (old.left.at + size) (drop size xs)) = λ n. records_next (suc n) n codes old.left.at xs refl long there ∙ ap₂ (λ k c. ok_map ends_at (read_records n (Some c) (old.left.at + k) (drop k xs))) (sym said) is in
     record {
       others = λ n. next n ∙ ap₂ (λ a ys. ok_map ends_at (read_records n (Some (code kind)) a ys)) (sym at) (sym left);
-      within = ap₂ (λ a b. a + b) at rest ∙ sum;
       code_is = is;
       same = same;
     }

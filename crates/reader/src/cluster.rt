@@ -1,5 +1,5 @@
 // Reads the clusters of a zero-suppressed record.
-ghost use Rattle.std.specs.Prelude.{◌≡◌, ℕ, ◌+◌, ◌^◌, ◌<◌, ◌≤◌, List, ◌++◌, length, Some, None, Err, ◌≢◌, IfOk, IfErr};
+ghost use Rattle.std.specs.Prelude.{◌≡◌, ℕ, ◌<◌, List, length, None, IfOk, IfErr};
 ghost use Rattle.reader.specs.Questions.{ok_map, verdict, read_cluster, read_clusters};
 ghost use Rattle.reader.specs.Walks.{ClusterPassed, ClusterStopped};
 ghost use Rattle.std.specs.Iterator.{YieldsFirstBy, item_count};
@@ -7,6 +7,7 @@ ghost use Rattle.layout.specs.Event.{run_of};
 ghost use Rattle.reader.specs.Items.{clusters_in};
 ghost use Rattle.reader.specs.Parts.{cluster_value, clusters_left};
 
+use crate::part::Part;
 use faults::ClusterFault;
 use layout::Run;
 
@@ -30,31 +31,27 @@ impl Cluster<'_> {
     }
 }
 
-// Reads the cluster at the front of what is left of a record, at the offset `at` of the input.
-fn read_cluster<'a>(
-    left: &'a [u8],
-    at: usize,
-    before: Option<Run>,
-) -> Result<Cluster<'a>, ClusterFault>
-    ensures { ok_map cluster_value result ≡ read_cluster before at left.now }
+// Reads the cluster at the front of what is left of a record.
+fn read_cluster<'a>(left: Part<'a>, before: Option<Run>) -> Result<Cluster<'a>, ClusterFault>
+    ensures { ok_map cluster_value result ≡ read_cluster before left.entry.at left.entry.bytes.now }
 {
-    let [address, strips, data @ ..] = left else {
-        return Err(ClusterFault::NoHeader(at));
+    let [address, strips, data @ ..] = left.bytes else {
+        return Err(ClusterFault::NoHeader(left.at));
     };
     let run = Run {
         address: *address,
         strips: *strips,
     };
     if !run.lies_in_chip() {
-        return Err(ClusterFault::BadLength(at));
+        return Err(ClusterFault::BadLength(left.at));
     }
     let strips = usize::from(run.strips);
     if data.len() < strips {
-        return Err(ClusterFault::DataOutside(at));
+        return Err(ClusterFault::DataOutside(left.at));
     }
     if let Some(before) = before {
         if !run.lies_behind(before) {
-            return Err(ClusterFault::OutOfOrder(at));
+            return Err(ClusterFault::OutOfOrder(left.at));
         }
     }
     Ok(Cluster {
@@ -63,41 +60,35 @@ fn read_cluster<'a>(
     })
 }
 
-// Reads the clusters of a record one after the other: what is left of it, the offset at which that begins, and the cluster before.
+// Reads the clusters of a record one after the other: what is left of it, and the cluster before.
 #[derive(Drop)]
 struct ClusterReader<'a> {
-    left: &'a [u8],
-    at: usize,
+    left: Part<'a>,
     before: Option<Run>,
 }
 
 impl ClusterReader<'_> {
     // Reads the next cluster.
     fn read_next(&mut self) -> Result<(), ClusterFault>
-        requires { self.old.at + length self.old.left.now < 2 ^ 64 }
         ensures passed { IfOk result (λ _. ClusterPassed self.old self.new) }
         ensures stopped { IfErr result (ClusterStopped self.old) }
     {
-        let cluster = read_cluster(self.left, self.at, self.before)?;
-        let bytes = 2 + cluster.values.len();
-        self.left = &self.left[bytes..];
-        self.at += bytes;
+        let cluster = read_cluster(self.left, self.before)?;
+        self.left = self.left.behind(2 + cluster.values.len());
         self.before = Some(cluster.run());
         Ok(())
     }
 }
 
-// Reads all the clusters that fill the bytes of a record from the offset `at` on.
-pub(crate) fn read_clusters(body: &[u8], at: usize) -> Result<(), ClusterFault>
-    requires { at + length body.now < 2 ^ 64 }
-    ensures { result ≡ verdict (read_clusters 0 None at body.now) }
+// Reads all the clusters that fill a part of a record.
+pub(crate) fn read_clusters(body: Part) -> Result<(), ClusterFault>
+    ensures { result ≡ verdict (read_clusters 0 None body.entry.at body.entry.bytes.now) }
 {
     let mut clusters = ClusterReader {
         left: body,
-        at,
         before: None,
     };
-    while !clusters.left.is_empty() {
+    while !clusters.left.bytes.is_empty() {
         clusters.read_next()?;
     }
     Ok(())

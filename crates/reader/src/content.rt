@@ -1,30 +1,30 @@
 // Reads the contents of records, each kind by its own questions.
-ghost use Rattle.std.specs.Prelude.{◌≡◌, ℕ, ◌+◌, ◌^◌, ◌<◌, ◌≤◌, length};
+ghost use Rattle.std.specs.Prelude.{◌≡◌, ℕ, ◌+◌, ◌≤◌, length};
 ghost use Rattle.layout.specs.Event.{shortest};
 ghost use Rattle.reader.specs.Questions.{verdict, read_suppressed, read_content};
 
 use crate::cluster::read_clusters;
+use crate::part::Part;
 use crate::words::{number_in, read_words};
 use faults::RecordFault;
 use layout::{Kind, ProcessedRaw, RecordKind, VirginRaw, ZeroSuppressed};
 use terms::LARGEST;
 
-// Both common modes, then the clusters, from the offset `at` on.
-fn read_suppressed(content: &[u8], at: usize) -> Result<(), RecordFault>
-    requires modes { 4 ≤ length content.now }
-    requires within { at + length content.now < 2 ^ 64 }
-    ensures { result ≡ verdict (read_suppressed at content.now) }
+// Both common modes, then the clusters.
+fn read_suppressed(content: Part) -> Result<(), RecordFault>
+    requires { 4 ≤ length content.bytes.now }
+    ensures { result ≡ verdict (read_suppressed content.entry.at content.entry.bytes.now) }
 {
-    let [left_lo, left_hi, right_lo, right_hi, clusters @ ..] = content else {
+    let [left_lo, left_hi, right_lo, right_hi, ..] = content.bytes else {
         unreachable()
     };
     if number_in(*left_lo, *left_hi) > LARGEST {
-        return Err(RecordFault::TooLarge(at));
+        return Err(RecordFault::TooLarge(content.at));
     }
     if number_in(*right_lo, *right_hi) > LARGEST {
-        return Err(RecordFault::TooLarge(at + 2));
+        return Err(RecordFault::TooLarge(content.at + 2));
     }
-    read_clusters(clusters, at + 4)?;
+    read_clusters(content.behind(4))?;
     Ok(())
 }
 
@@ -33,11 +33,10 @@ pub(crate) trait ReadKind: RecordKind {
     fn kind_of_record() -> Kind
         ensures { result ≡ Self.RecordKind.kind };
 
-    // The questions of a content, from the offset `at` on.
-    fn read_content(content: &[u8], at: usize) -> Result<(), RecordFault>
-        requires long { shortest Self.RecordKind.kind ≤ 3 + length content.now }
-        requires within { at + length content.now < 2 ^ 64 }
-        ensures { result ≡ verdict (read_content Self.RecordKind.kind at content.now) };
+    // The questions of a content.
+    fn read_content(content: Part) -> Result<(), RecordFault>
+        requires { shortest Self.RecordKind.kind ≤ 3 + length content.bytes.now }
+        ensures { result ≡ verdict (read_content Self.RecordKind.kind content.entry.at content.entry.bytes.now) };
 }
 
 impl ReadKind for ZeroSuppressed {
@@ -45,8 +44,8 @@ impl ReadKind for ZeroSuppressed {
         Kind::ZeroSuppressed
     }
 
-    fn read_content(content: &[u8], at: usize) -> Result<(), RecordFault> {
-        read_suppressed(content, at)
+    fn read_content(content: Part) -> Result<(), RecordFault> {
+        read_suppressed(content)
     }
 }
 
@@ -56,8 +55,8 @@ impl ReadKind for ProcessedRaw {
         Kind::ProcessedRaw
     }
 
-    fn read_content(content: &[u8], at: usize) -> Result<(), RecordFault> {
-        read_words(content, at)
+    fn read_content(content: Part) -> Result<(), RecordFault> {
+        read_words(content)
     }
 }
 
@@ -66,7 +65,7 @@ impl ReadKind for VirginRaw {
         Kind::VirginRaw
     }
 
-    fn read_content(content: &[u8], at: usize) -> Result<(), RecordFault> {
-        read_words(content, at)
+    fn read_content(content: Part) -> Result<(), RecordFault> {
+        read_words(content)
     }
 }

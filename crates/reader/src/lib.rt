@@ -5,6 +5,7 @@ pub mod cluster;
 mod content;
 pub mod event;
 pub mod laws;
+mod part;
 pub mod record;
 pub mod stored;
 pub mod words;

@@ -1,11 +1,12 @@
 // Reads the ten-bit words of a record.
-ghost use Rattle.std.specs.Prelude.{◌≡◌, ℕ, ◌+◌, ◌^◌, ◌<◌, List, length};
+ghost use Rattle.std.specs.Prelude.{◌≡◌, ℕ, List};
 ghost use Rattle.std.specs.Iterator.{YieldsFirst, item_count};
 ghost use Rattle.std.specs.List.{slice_get};
 ghost use Rattle.reader.specs.Items.{words_in};
 ghost use Rattle.reader.specs.Parts.{words_left};
 ghost use Rattle.reader.specs.Questions.{verdict, number_in, read_words};
 
+use crate::part::Part;
 use faults::RecordFault;
 use terms::LARGEST;
 
@@ -46,13 +47,12 @@ impl Iterator for Words<'_> {
     }
 }
 
-// Reads all words of a raw record's content, which begins at the offset `at`.
-pub(crate) fn read_words(content: &[u8], at: usize) -> Result<(), RecordFault>
-    requires { at + length content.now < 2 ^ 64 }
-    ensures { result ≡ verdict (read_words at content.now) }
+// Reads all words of a raw record's content.
+pub(crate) fn read_words(content: Part) -> Result<(), RecordFault>
+    ensures { result ≡ verdict (read_words content.entry.at content.entry.bytes.now) }
 {
-    match Words::new(content).position(|word| word > LARGEST) {
-        Some(index) => Err(RecordFault::TooLarge(at + 2 * index)),
+    match Words::new(content.bytes).position(|word| word > LARGEST) {
+        Some(index) => Err(RecordFault::TooLarge(content.at + 2 * index)),
         None => Ok(()),
     }
 }

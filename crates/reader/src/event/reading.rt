@@ -7,33 +7,37 @@ ghost use Rattle.reader.specs.Walks.{Passed, Stopped};
 ghost use Rattle.reader.specs.Questions.{ok_map, ends_at, read_records};
 
 use crate::event::Event;
-use crate::record::reading::read_record;
+use crate::part::Part;
+use crate::record::reading::{Header, read_record};
 use crate::words::number_in;
 use faults::EventFault;
 use layout::Kind;
 use terms::FIBRES;
 
-// Reads the records of an event one after the other: what is left of the input, and the offset at which that begins.
+// Reads the records of an event one after the other: what is left of the input.
 #[derive(Drop)]
 struct RecordReader<'a> {
-    left: &'a [u8],
-    at: usize,
+    left: Part<'a>,
 }
 
 impl RecordReader<'_> {
     // Reads the next record, and answers its kind; `first` is the kind of fibre 0, for the fibres behind it.
     fn read_next(&mut self, first: Option<Kind>) -> Result<Kind, EventFault>
-        requires { self.old.at + length self.old.left.now < 2 ^ 64 }
         ensures passed { IfOk result (Passed first self.old self.new) }
         ensures stopped { IfErr result (Stopped first self.old) }
     {
-        let [lo, hi, code, rest @ ..] = self.left else {
-            return Err(EventFault::NoHeader(self.at));
+        let [lo, hi, code, rest @ ..] = self.left.bytes else {
+            return Err(EventFault::NoHeader(self.left.at));
         };
         let size = usize::from(number_in(*lo, *hi));
-        let kind = read_record(first, size, *code, rest, self.at)?;
-        self.left = &self.left[size..];
-        self.at += size;
+        let header = Header {
+            at: self.left.at,
+            size,
+            code: *code,
+            rest,
+        };
+        let kind = read_record(first, header)?;
+        self.left = self.left.behind(size);
         Ok(kind)
     }
 }
@@ -44,12 +48,16 @@ fn read_records(input: &[u8]) -> Result<(Kind, usize), EventFault>
     ensures kind { IfOk result (λ p. slice_index input.now 2 ≡ code p.0) }
     ensures bytes { OnOk result (AllByRecursion Byte input.now) }
 {
-    let mut records = RecordReader { left: input, at: 0 };
+    let left = Part {
+        bytes: input,
+        at: 0,
+    };
+    let mut records = RecordReader { left };
     let kind = records.read_next(None)?;
     for _fibre in 1..FIBRES {
         records.read_next(Some(kind))?;
     }
-    Ok((kind, records.at))
+    Ok((kind, records.left.at))
 }
 
 // Reads the event at the front of an input, and hands back what lies behind it.

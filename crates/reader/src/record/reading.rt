@@ -6,15 +6,25 @@ ghost use Rattle.layout.specs.Event.{code as packet_code};
 ghost use Rattle.reader.specs.Questions.{verdict, read_record, read_body};
 
 use crate::content::ReadKind;
+use crate::part::Part;
 use faults::RecordFault;
 use layout::{Kind, ProcessedRaw, RecordKind, VirginRaw, ZeroSuppressed};
 
-// The questions of a record of the kind `K`, of `size` bytes, whose header begins at the offset `at`; `rest` is
-// all that lies behind the header.
-fn read_body<K: ReadKind>(size: usize, rest: &[u8], at: usize) -> Result<(), RecordFault>
-    requires { at + 3 + length rest.now < 2 ^ 64 }
-    ensures { result ≡ verdict (read_body K.RecordKind.kind at size rest.now) }
+// A record's header: the offset at which it begins, the record's length, its packet code, and all that lies behind.
+#[derive(Clone, Copy)]
+pub(crate) struct Header<'a> {
+    pub at: usize,
+    pub size: usize,
+    pub code: u8,
+    pub rest: &'a [u8],
+    ghost fits: { at + 3 + length rest.now < 2 ^ 64 },
+}
+
+// The questions of a record of the kind `K`, behind its header.
+fn read_body<K: ReadKind>(header: Header) -> Result<(), RecordFault>
+    ensures { result ≡ verdict (read_body K.RecordKind.kind header.entry.at header.entry.size header.entry.rest.now) }
 {
+    let Header { at, size, rest, .. } = header;
     let kind = K::kind_of_record();
     if size < kind.shortest() || size > kind.longest() {
         return Err(RecordFault::LengthRange(at));
@@ -22,35 +32,31 @@ fn read_body<K: ReadKind>(size: usize, rest: &[u8], at: usize) -> Result<(), Rec
     if size > 3 + rest.len() {
         return Err(RecordFault::Outside(at));
     }
-    K::read_content(&rest[0..size - 3], at + 3)
+    K::read_content(Part {
+        bytes: &rest[0..size - 3],
+        at: at + 3,
+    })
 }
 
-// Reads a record behind its header, which has the length `size` and the packet code `code` and begins at the offset
-// `at`, and answers its kind; `first` is the kind of fibre 0, for the fibres behind it.
-pub(crate) fn read_record(
-    first: Option<Kind>,
-    size: usize,
-    code: u8,
-    rest: &[u8],
-    at: usize,
-) -> Result<Kind, RecordFault>
-    requires { at + 3 + length rest.now < 2 ^ 64 }
-    ensures asked { verdict result ≡ verdict (read_record (option_map packet_code first) at size code rest.now) }
-    ensures kind { IfOk result (λ kind. code ≡ packet_code kind) }
+// Reads a record behind its header, and answers its kind; `first` is the kind of fibre 0, for the fibres behind it.
+pub(crate) fn read_record(first: Option<Kind>, header: Header) -> Result<Kind, RecordFault>
+    ensures asked { verdict result
+        ≡ verdict (read_record (option_map packet_code first) header.entry.at header.entry.size header.entry.code header.entry.rest.now) }
+    ensures kind { IfOk result (λ kind. header.entry.code ≡ packet_code kind) }
     ensures same { IfOk result (λ kind. (f : KindOf) → first ≡ Some f → kind ≡ f) }
 {
-    let Ok(kind) = Kind::try_from(code) else {
-        return Err(RecordFault::UnknownCode(at + 2));
+    let Ok(kind) = Kind::try_from(header.code) else {
+        return Err(RecordFault::UnknownCode(header.at + 2));
     };
     if let Some(first) = first {
         if first != kind {
-            return Err(RecordFault::OtherKind(at + 2));
+            return Err(RecordFault::OtherKind(header.at + 2));
         }
     }
     match kind {
-        Kind::ZeroSuppressed => read_body::<ZeroSuppressed>(size, rest, at)?,
-        Kind::ProcessedRaw => read_body::<ProcessedRaw>(size, rest, at)?,
-        Kind::VirginRaw => read_body::<VirginRaw>(size, rest, at)?,
+        Kind::ZeroSuppressed => read_body::<ZeroSuppressed>(header)?,
+        Kind::ProcessedRaw => read_body::<ProcessedRaw>(header)?,
+        Kind::VirginRaw => read_body::<VirginRaw>(header)?,
     }
     Ok(kind)
 }

@@ -11,14 +11,14 @@ returns-in_err-kind-clause-end c =
     rw (p.1, p.2) (sym (c.in_err-kind.ensures.stopped 11))
 
 pub loop-fibre-init : goal.loop-fibre-init
-loop-fibre-init c = let p = c.in_ok-kind.ensures.passed in (sym (p.others 11), omega (arith, p.within))
+loop-fibre-init c = let p = c.in_ok-kind.ensures.passed in sym (p.others 11)
 
 pub returns-in_err-read_next-clause-end : goal.returns-in_err-read_next-clause-end
 returns-in_err-read_next-clause-end c =
     let p = err_from_is_err_and c.from_residual-in_err-read_next.result c.from_residual-in_err-read_next.ensures.1 in
     let i = c.loop-fibre._fibre in
     let more : 12 - i ≡ suc (11 - i) = omega arith in
-    rw (p.1, p.2) (sym (c.in_err-read_next.ensures.stopped (11 - i)) ∙ (ap (λ n. ends n (Some c.in_ok-kind.kind) c.loop-fibre.records) (sym more) ∙ c.loop-fibre.invariant.0))
+    rw (p.1, p.2) (sym (c.in_err-read_next.ensures.stopped (11 - i)) ∙ (ap (λ n. ends n (Some c.in_ok-kind.kind) c.loop-fibre.records) (sym more) ∙ c.loop-fibre.invariant))
 
 pub loop-fibre-preserved : goal.loop-fibre-preserved
 loop-fibre-preserved c =
@@ -27,7 +27,7 @@ loop-fibre-preserved c =
     let more : 12 - i ≡ suc (12 - (i + 1)) = omega arith in
     let next = p.others (12 - (i + 1)) in
     let same = p.same c.in_ok-kind.kind cc in
-    (rw same at (sym next) ∙ (ap (λ n. ends n (Some c.in_ok-kind.kind) c.loop-fibre.records) (sym more) ∙ c.loop-fibre.invariant.0), p.within ∙ c.loop-fibre.invariant.1)
+    rw same at (sym next) ∙ (ap (λ n. ends n (Some c.in_ok-kind.kind) c.loop-fibre.records) (sym more) ∙ c.loop-fibre.invariant)
 
 pub returns-clause-bytes : goal.returns-clause-bytes
 returns-clause-bytes c = All-from_get_or Byte c.args.input.now 0 (λ i h. (c.type_inv.input i).fits)
