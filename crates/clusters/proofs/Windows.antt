@@ -48,17 +48,19 @@ seen_at chip n k h =
     ∙ get_or-drop n (between_nothing chip) k nothing
     ∙ padded_reads (nothing ∷ nothing ∷ chip) (n + k)
 
--- one window further on
+-- one window further on: what the window says is whether its strip belongs
 pub turned :
-    (chip rest more strips : List Reached) (n size : ℕ) →
+    (chip rest more strips : List Reached) (n size : ℕ) (b : Bool) →
     length chip ≡ 128 →
     size ≡ 5 →
     rest ≡ drop n (between_nothing chip) →
     size ≤ length rest →
     strips ≡ take size rest →
     more ≡ drop 1 rest →
-    (n < 128) × (strips ≡ window chip n) × (more ≡ drop (n + 1) (between_nothing chip))
-turned chip rest more strips n size long of_five e enough seen on =
+    b ≡ some_fits patterns strips →
+    (n < 128) × (belongs chip n ≡ b) × (more ≡ drop (n + 1) (between_nothing chip))
+unfolding belongs
+turned chip rest more strips n size b long of_five e enough seen on says =
     let padded = between_nothing chip in
     let within : n < 128 = omega (arith, ap length e, length-drop n padded, length-append (nothing ∷ nothing ∷ chip) (nothing ∷ nothing ∷ [])) in
     let five_of : strips ≡ take 5 (drop n padded) = seen ∙ ap (λ k. take k rest) of_five ∙ ap (take 5) e in
@@ -69,18 +71,10 @@ turned chip rest more strips n size long of_five e enough seen on =
     let e3 = seen_at chip n 3 (omega arith) in
     let e4 = seen_at chip n 4 (omega arith) in
     let each = five strips nothing full in
-    (within, cc, on ∙ ap (drop 1) e ∙ drop-drop 1 n padded)
+    let around : strips ≡ window chip n = cc in
+    (within, sym (says ∙ ap (some_fits patterns) around), on ∙ ap (drop 1) e ∙ drop-drop 1 n padded)
 
 -- no window is left behind the chip's last strip
 pub turned_last : (chip rest : List Reached) (n size : ℕ) → length chip ≡ 128 → size ≡ 5 → rest ≡ drop n (between_nothing chip) → length rest < size → n ≤ 128 → n ≡ 128
 turned_last chip rest n size long of_five e short within =
     omega (arith, ap length e, length-drop n (between_nothing chip), length-append (nothing ∷ nothing ∷ chip) (nothing ∷ nothing ∷ []))
-
--- what the window around strip n says is whether the strip belongs
-pub told :
-    (chip : List Reached) (n : ℕ) (strips : List Reached) (b : Bool) →
-    strips ≡ window chip n →
-    b ≡ some_fits patterns strips →
-    belongs chip n ≡ b
-unfolding belongs
-told chip n strips b e f = sym (f ∙ ap (some_fits patterns) e)

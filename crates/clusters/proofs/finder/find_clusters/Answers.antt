@@ -1,5 +1,5 @@
 use Rattle.std.proofs.Common.{◌≡◌, List, [], ◌++◌, length, take, drop, ap, ◌∙◌, arith, rules}
-use Rattle.std.proofs.lemmas.List.{length-take-le, length-drop, take_all}
+use Rattle.std.proofs.lemmas.List.{length-drop, take_all}
 use Rattle.layout.specs.declared.run.Run.{Run}
 use Rattle.layout.specs.Places.{spaced}
 use Rattle.layout.specs.Contents.{listed}
@@ -25,45 +25,24 @@ both strips none left all e f =
     ap (λ rs. rs ++ chip_runs 128 (take 128 (drop 128 strips))) (f ∙ ap (λ rs. rs ++ chip_runs 0 (take 128 strips)) e)
     ∙ ap (λ part. chip_runs 0 (take 128 strips) ++ chip_runs 128 part) (right_part strips all)
 
-whole :
-    (strips : List Reached) (none left all : List Run) →
-    length strips ≡ 256 →
-    none ≡ [] →
-    left ≡ none ++ chip_runs 0 (take 128 strips) →
-    all ≡ left ++ chip_runs 128 (take 128 (drop 128 strips)) →
-    all ≡ cluster_runs strips
-whole strips none left all h e f g = g ∙ both strips none left h e f
-
-pub find_on_chip-requires : goal.find_on_chip-requires
+pub find_on_chip-requires-clause-in_place : goal.find_on_chip-requires-clause-in_place
 unfolding cluster_runs
-find_on_chip-requires c =
+find_on_chip-requires-clause-in_place c =
     let strips = c.args.reached.now in
     let all : length strips ≡ 256 = search rules in
-    record {
-      chip = length-take-le 128 strips (omega arith);
-      on_fibre = omega arith;
-      in_place =
-          ap (λ rs. spaced (rs ++ chip_runs 0 (take 128 strips))) c.new-runs.ensures
-          ∙ spaced_front (chip_runs 0 (take 128 strips)) (chip_runs 128 (drop 128 strips)) (clusters_in_place strips all);
-    }
+    ap (λ rs. spaced (rs ++ chip_runs 0 (take 128 strips))) c.new-runs.ensures
+    ∙ spaced_front (chip_runs 0 (take 128 strips)) (chip_runs 128 (drop 128 strips)) (clusters_in_place strips all)
 
-pub find_on_chip-requires-2 : goal.find_on_chip-requires-2
-find_on_chip-requires-2 c =
+pub find_on_chip-requires-2-clause-in_place : goal.find_on_chip-requires-2-clause-in_place
+find_on_chip-requires-2-clause-in_place c =
     let strips = c.args.reached.now in
     let all : length strips ≡ 256 = search rules in
-    record {
-      chip = ap length (right_part strips all) ∙ omega (arith, length-drop 128 strips);
-      on_fibre = omega arith;
-      in_place =
-          ap spaced
-          (both strips (listed c.new-runs.result) (listed c.find_on_chip.new.runs) all c.new-runs.ensures
-          c.find_on_chip.ensures)
-          ∙ clusters_in_place strips all;
-    }
+    ap spaced (both strips (listed c.new-runs.result) (listed c.find_on_chip.new.runs) all c.new-runs.ensures c.find_on_chip.ensures)
+    ∙ clusters_in_place strips all
 
 pub returns : goal.returns
 returns c =
     let strips = c.args.reached.now in
     let all : length strips ≡ 256 = search rules in
-    whole strips (listed c.new-runs.result) (listed c.find_on_chip.new.runs) (listed c.find_on_chip-2.new.runs) all
-    c.new-runs.ensures c.find_on_chip.ensures c.find_on_chip-2.ensures
+    c.find_on_chip-2.ensures
+    ∙ both strips (listed c.new-runs.result) (listed c.find_on_chip.new.runs) all c.new-runs.ensures c.find_on_chip.ensures

@@ -1,11 +1,11 @@
-use Rattle.std.proofs.Common.{◌+◌, true, false, [], ◌++◌, sym, ap, ◌∙◌, arith, rules}
+use Rattle.std.proofs.Common.{◌+◌, [], ◌++◌, sym, ap, ◌∙◌, arith, rules}
 use Rattle.std.specs.Iterator.Adapters.{enumerate_source, enumerate_count}
 use Rattle.std.specs.Slice.Iter.{windows_rest, windows_size}
 use Rattle.std.specs.Slice.ArrayWindows.{array_windows_parts}
 use Rattle.layout.specs.Places.{spaced}
 use Rattle.layout.specs.Contents.{listed}
 use Rattle.clusters.specs.Clusters.{ended, chip_runs}
-use Rattle.clusters.proofs.Windows.{turned, turned_last, told}
+use Rattle.clusters.proofs.Windows.{turned, turned_last}
 use Rattle.clusters.proofs.Following.{left, spaced_front, all_longer, all_ended, all_none}
 use Rattle.clusters.proofs.finder.find_on_chip.Goals as goal
 
@@ -19,8 +19,7 @@ loop-n-preserved-then-belongs c =
     let old = array_windows_parts (enumerate_source c.loop-n.n-iterator) in
     let new = array_windows_parts (enumerate_source c.next.new.self) in
     let (slid, at, on, _) = c.in-Some.ensures.steps in
-    let (within, seen, rest) = turned chip (windows_rest old) (windows_rest new) c.in-Some.window.now n (windows_size old) c.requires.chip c.loop-n.invariant.of_five c.loop-n.invariant.rest slid.1.0 slid.1.1 slid.1.2 in
-    let free = told chip n c.in-Some.window.now true seen (sym c.if-belongs.true ∙ c.belongs.ensures) in
+    let (within, free, rest) = turned chip (windows_rest old) (windows_rest new) _ n (windows_size old) _ c.requires.chip c.loop-n.invariant.of_five c.loop-n.invariant.rest slid.1.0 slid.1.1 slid.1.2 (sym c.if-belongs.true ∙ c.belongs.ensures) in
     let all = all_longer (listed c.loop-n.runs) (listed c.args.runs.now ++ chip_runs first chip) chip first n s (omega arith) free c.loop-n.invariant.all in
     record {
       can = search rules;
@@ -42,8 +41,7 @@ end_run-requires-clause-in_place c =
     let old = array_windows_parts (enumerate_source c.loop-n.n-iterator) in
     let new = array_windows_parts (enumerate_source c.next.new.self) in
     let (slid, at, on, _) = c.in-Some.ensures.steps in
-    let (within, seen, rest) = turned chip (windows_rest old) (windows_rest new) c.in-Some.window.now n (windows_size old) c.requires.chip c.loop-n.invariant.of_five c.loop-n.invariant.rest slid.1.0 slid.1.1 slid.1.2 in
-    let free = told chip n c.in-Some.window.now false seen (sym c.if-belongs.false ∙ c.belongs.ensures) in
+    let (within, free, rest) = turned chip (windows_rest old) (windows_rest new) _ n (windows_size old) _ c.requires.chip c.loop-n.invariant.of_five c.loop-n.invariant.rest slid.1.0 slid.1.1 slid.1.2 (sym c.if-belongs.false ∙ c.belongs.ensures) in
     let all = all_ended found (listed c.args.runs.now ++ chip_runs first chip) chip first n c.loop-n.strips (omega arith) free c.loop-n.invariant.all in
     rw at (spaced_front (found ++ ended (first + n) c.loop-n.strips []) (left chip first (n + 1) 0) (ap spaced all ∙ c.requires.in_place))
 
@@ -55,8 +53,7 @@ loop-n-preserved c =
     let old = array_windows_parts (enumerate_source c.loop-n.n-iterator) in
     let new = array_windows_parts (enumerate_source c.next.new.self) in
     let (slid, at, on, _) = c.in-Some.ensures.steps in
-    let (within, seen, rest) = turned chip (windows_rest old) (windows_rest new) c.in-Some.window.now n (windows_size old) c.requires.chip c.loop-n.invariant.of_five c.loop-n.invariant.rest slid.1.0 slid.1.1 slid.1.2 in
-    let free = told chip n c.in-Some.window.now false seen (sym c.if-belongs.false ∙ c.belongs.ensures) in
+    let (within, free, rest) = turned chip (windows_rest old) (windows_rest new) _ n (windows_size old) _ c.requires.chip c.loop-n.invariant.of_five c.loop-n.invariant.rest slid.1.0 slid.1.1 slid.1.2 (sym c.if-belongs.false ∙ c.belongs.ensures) in
     let all = all_ended (listed c.loop-n.runs) (listed c.args.runs.now ++ chip_runs first chip) chip first n c.loop-n.strips (omega arith) free c.loop-n.invariant.all in
     record {
       can = search rules;
