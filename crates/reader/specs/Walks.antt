@@ -1,14 +1,30 @@
--- One step of the walks over the records of an event and the clusters of a record.
+-- The questions of a part and of a header, and one step of the walks over the records of an event and the clusters
+-- of a record.
 -- Assumes nothing.
 use Rattle.std.specs.Prelude.{◌≡◌, ℕ, suc, ◌+◌, length, drop, Some, Ok, Err, Option, Result, slice_index}
 use Rattle.std.specs.Option.{option_map}
 use Rattle.layout.specs.declared.kind.Kind.{Kind}
-use Rattle.layout.specs.Event.{Cluster, run_of, code}
+use Rattle.layout.specs.Event.{Cluster, Content, run_of, code}
 use Rattle.faults.specs.declared.fault.ClusterFault.{ClusterFault}
+use Rattle.faults.specs.declared.fault.RecordFault.{RecordFault}
 use Rattle.faults.specs.declared.fault.EventFault.{EventFault}
+use Rattle.reader.specs.declared.part.Part.{Part}
+use Rattle.reader.specs.declared.record.header.Header.{Header}
 use Rattle.reader.specs.declared.cluster.ClusterReader.{ClusterReader}
 use Rattle.reader.specs.declared.event.reading.RecordReader.{RecordReader}
-use Rattle.reader.specs.Questions.{ok_map, ends_at, read_cluster, read_records}
+use Rattle.reader.specs.Questions.{ok_map, ends_at, read_cluster, read_content, read_body, read_record, read_records}
+
+-- the questions of the content of a record of a kind
+abbrev pub content_asked : Kind → Part → Result Content RecordFault
+content_asked k part = read_content k part.at part.bytes.now
+
+-- the questions of a record of a kind, behind its header
+abbrev pub body_asked : Kind → Header → Result Content RecordFault
+body_asked k header = read_body k header.at header.size header.rest.now
+
+-- the questions of a record behind its header; `first` is the kind of fibre 0, for the fibres behind it
+abbrev pub record_asked : Option Kind → Header → Result Content RecordFault
+record_asked first header = read_record (option_map code first) header.at header.size header.code header.rest.now
 
 -- where the next n records end, behind fibre 0 of this kind
 abbrev pub ends : ℕ → Option Kind → RecordReader → Result ℕ EventFault

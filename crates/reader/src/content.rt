@@ -1,7 +1,8 @@
 // Reads the contents of records, each kind by its own questions.
 ghost use Rattle.std.specs.Prelude.{◌≡◌, ℕ, ◌+◌, ◌≤◌, length};
 ghost use Rattle.layout.specs.Event.{shortest};
-ghost use Rattle.reader.specs.Questions.{verdict, read_suppressed, read_content};
+ghost use Rattle.reader.specs.Questions.{verdict, read_suppressed};
+ghost use Rattle.reader.specs.Walks.{content_asked};
 
 use crate::cluster::read_clusters;
 use crate::part::Part;
@@ -36,7 +37,7 @@ pub(crate) trait ReadKind: RecordKind {
     // The questions of a content.
     fn read_content(content: Part) -> Result<(), RecordFault>
         requires { shortest Self.RecordKind.kind ≤ 3 + length content.bytes.now }
-        ensures { result ≡ verdict (read_content Self.RecordKind.kind content.entry.at content.entry.bytes.now) };
+        ensures { result ≡ verdict (content_asked Self.RecordKind.kind content.entry) };
 }
 
 impl ReadKind for ZeroSuppressed {

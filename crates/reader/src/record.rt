@@ -6,6 +6,7 @@ ghost use Rattle.reader.specs.Items.{content_in, contents_in};
 
 use layout::Kind;
 
+pub(crate) mod header;
 pub mod questions;
 pub(crate) mod reading;
 pub(crate) mod splitting;

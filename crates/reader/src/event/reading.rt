@@ -8,7 +8,8 @@ ghost use Rattle.reader.specs.Questions.{ok_map, ends_at, read_records};
 
 use crate::event::Event;
 use crate::part::Part;
-use crate::record::reading::{Header, read_record};
+use crate::record::header::Header;
+use crate::record::reading::read_record;
 use crate::words::number_in;
 use faults::EventFault;
 use layout::Kind;

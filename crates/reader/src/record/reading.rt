@@ -1,28 +1,19 @@
 // Reads a record behind its header bytes.
-ghost use Rattle.std.specs.Prelude.{◌≡◌, ℕ, ◌+◌, ◌^◌, ◌<◌, ◌≤◌, length, Some, IfOk};
-ghost use Rattle.std.specs.Option.{option_map};
+ghost use Rattle.std.specs.Prelude.{◌≡◌, Some, IfOk};
 ghost use Rattle.layout.specs.declared.kind.Kind.{Kind as KindOf};
 ghost use Rattle.layout.specs.Event.{code as packet_code};
-ghost use Rattle.reader.specs.Questions.{verdict, read_record, read_body};
+ghost use Rattle.reader.specs.Questions.{verdict};
+ghost use Rattle.reader.specs.Walks.{body_asked, record_asked};
 
 use crate::content::ReadKind;
 use crate::part::Part;
+use crate::record::header::Header;
 use faults::RecordFault;
 use layout::{Kind, ProcessedRaw, RecordKind, VirginRaw, ZeroSuppressed};
 
-// A record's header: the offset at which it begins, the record's length, its packet code, and all that lies behind.
-#[derive(Clone, Copy)]
-pub(crate) struct Header<'a> {
-    pub at: usize,
-    pub size: usize,
-    pub code: u8,
-    pub rest: &'a [u8],
-    ghost fits: { at + 3 + length rest.now < 2 ^ 64 },
-}
-
 // The questions of a record of the kind `K`, behind its header.
 fn read_body<K: ReadKind>(header: Header) -> Result<(), RecordFault>
-    ensures { result ≡ verdict (read_body K.RecordKind.kind header.entry.at header.entry.size header.entry.rest.now) }
+    ensures { result ≡ verdict (body_asked K.RecordKind.kind header.entry) }
 {
     let Header { at, size, rest, .. } = header;
     let kind = K::kind_of_record();
@@ -40,8 +31,7 @@ fn read_body<K: ReadKind>(header: Header) -> Result<(), RecordFault>
 
 // Reads a record behind its header, and answers its kind; `first` is the kind of fibre 0, for the fibres behind it.
 pub(crate) fn read_record(first: Option<Kind>, header: Header) -> Result<Kind, RecordFault>
-    ensures asked { verdict result
-        ≡ verdict (read_record (option_map packet_code first) header.entry.at header.entry.size header.entry.code header.entry.rest.now) }
+    ensures asked { verdict result ≡ verdict (record_asked first header.entry) }
     ensures kind { IfOk result (λ kind. header.entry.code ≡ packet_code kind) }
     ensures same { IfOk result (λ kind. (f : KindOf) → first ≡ Some f → kind ≡ f) }
 {
