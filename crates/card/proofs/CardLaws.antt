@@ -24,8 +24,8 @@ same_room meaning core lists room made calls e =
 
 -- at a card over a rule and a store, as its callers see it
 module _ {R S : Type 0} {meaning : R → Meaning} (bounded : (rule : R) → Bounded (meaning rule))
-  (s : Ghosts S) (sound : (store : S) → Sound (s.room store) (s.lists store))
-  {held : Held R} {rule : R} (core : Core) (store : S) (is : record { rule = rule; state = state_in s core store } ≡ held) where
+    (s : Ghosts S) (sound : (store : S) → Sound (s.room store) (s.lists store))
+    {held : Held R} {rule : R} (core : Core) (store : S) (is : record { rule = rule; state = state_in s core store } ≡ held) where
   pub keeps_laws_list : (more : List Call) → LawsAfterList (meaning held.rule) held.state more
   keeps_laws_list more =
       subst (λ (h : Held R). LawsAfterList (meaning h.rule) h.state more) is

@@ -1,8 +1,7 @@
 use Rattle.std.proofs.Common.{◌∙◌, arith}
 use Rattle.std.proofs.lemmas.List.{length-set}
 use Rattle.strips.specs.Fibre.{numbers}
-use Rattle.card.proofs.Fibres.{upto_none}
-use Rattle.card.proofs.Columns.{set_row, set_more, set_all, length_numbers, number_at}
+use Rattle.card.proofs.Columns.{set_more, set_all, length_numbers, number_at}
 use Rattle.card.proofs.column.set_column.Goals as goal
 
 pub loop-f-preserved : goal.loop-f-preserved

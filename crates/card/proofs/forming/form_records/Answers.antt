@@ -1,6 +1,5 @@
 use Rattle.std.proofs.Common.{◌∙◌, arith}
 use Rattle.std.proofs.lemmas.List.{length-set}
-use Rattle.card.proofs.Fibres.{upto_none}
 use Rattle.card.proofs.Formed.{formed_more, formed_all}
 use Rattle.card.proofs.forming.form_records.Goals as goal
 

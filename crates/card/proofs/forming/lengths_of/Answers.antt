@@ -1,7 +1,5 @@
-use Rattle.std.proofs.Common.{refl, ◌∙◌, arith}
-use Rattle.std.proofs.lemmas.List.{length-set}
-use Rattle.card.proofs.Fibres.{upto_none}
-use Rattle.card.proofs.Formed.{long_more, long_all}
+use Rattle.std.proofs.Common.{arith}
+use Rattle.card.proofs.Formed.{long_all}
 use Rattle.card.proofs.forming.lengths_of.Goals as goal
 
 pub returns : goal.returns

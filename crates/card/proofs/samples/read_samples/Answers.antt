@@ -1,6 +1,6 @@
 use Rattle.std.proofs.Common.{refl, arith}
 use Rattle.card.proofs.Fibres.{some_too_large}
-use Rattle.card.proofs.Columns.{read_none, read_more, read_all}
+use Rattle.card.proofs.Columns.{read_more, read_all}
 use Rattle.card.proofs.samples.read_samples.Goals as goal
 
 pub returns-in-None-clause-large : goal.returns-in-None-clause-large

@@ -1,7 +1,6 @@
-use Rattle.std.proofs.Common.{refl, ◌∙◌, arith}
+use Rattle.std.proofs.Common.{◌∙◌, arith}
 use Rattle.std.proofs.lemmas.List.{length-set}
-use Rattle.card.proofs.Fibres.{upto_none}
-use Rattle.card.proofs.Ticking.{stands, stands_more, stands_all}
+use Rattle.card.proofs.Ticking.{stands_more, stands_all}
 use Rattle.card.proofs.standings.standings.Goals as goal
 
 pub loop-f-preserved : goal.loop-f-preserved

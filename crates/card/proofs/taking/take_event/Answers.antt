@@ -36,14 +36,14 @@ loop-f-preserved g c =
     )
 
 pub returns-clause-lists : goal.returns-clause-lists
-returns-clause-lists g c = 
+returns-clause-lists g c =
     let lengths = c.args.lengths.now in
     let lists = g.S.Store.lists c.args.store.now in
     let end : c.loop-f.f ≡ 12 = omega arith in
     c.loop-f.invariant.1 ∙ (ap (lists_before lengths lists) end ∙ lists_all lengths lists (g.met.S.Store.sound c.args.store.now).twelve)
 
 pub returns-clause-out : goal.returns-clause-out
-returns-clause-out g c = 
+returns-clause-out g c =
     let lengths = c.args.lengths.now in
     let lists = g.S.Store.lists c.args.store.now in
     let end : c.loop-f.f ≡ 12 = omega arith in

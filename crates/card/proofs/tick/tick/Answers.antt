@@ -1,11 +1,8 @@
-use Rattle.std.proofs.Common.{false, replicate, refl, ◌∙◌, arith}
+use Rattle.std.proofs.Common.{◌∙◌, arith}
 use Rattle.std.proofs.lemmas.List.{length-set}
 use Rattle.strips.specs.Fibre.{numbers}
-use Rattle.card_model.specs.State.{off}
-use Rattle.card.specs.Abstraction.{watches_in}
 use Rattle.card.proofs.Columns.{number_at}
-use Rattle.card.proofs.Fibres.{upto_none}
-use Rattle.card.proofs.Ticking.{ticked_by, pulsed_by, ticked_more, pulsed_more, ticked_all, pulsed_all}
+use Rattle.card.proofs.Ticking.{ticked_more, pulsed_more, ticked_all, pulsed_all}
 use Rattle.card.proofs.tick.tick.Goals as goal
 
 pub loop-f-preserved : goal.loop-f-preserved
@@ -21,11 +18,11 @@ loop-f-preserved c =
     )
 
 pub returns-clause-watches : goal.returns-clause-watches
-returns-clause-watches c = 
+returns-clause-watches c =
     ticked_all c.args.settings.now c.args.tickers.now (numbers c.args.samples.now) c.loop-f.tickers c.loop-f.f (omega arith) c.loop-f.invariant.0
     c.loop-f.invariant.2
 
 pub returns-clause-pulses : goal.returns-clause-pulses
-returns-clause-pulses c = 
+returns-clause-pulses c =
     pulsed_all c.args.settings.now c.args.tickers.now (numbers c.args.samples.now) c.loop-f.pulses _ c.loop-f.f (omega arith) c.loop-f.invariant.1
     c.loop-f.invariant.3

@@ -1,4 +1,4 @@
-use Rattle.std.proofs.Common.{refl, ◌∙◌}
+use Rattle.std.proofs.Common.{◌∙◌}
 use Rattle.card.proofs.Calls.{asked_out, asked_none, asked_some}
 use Rattle.card.proofs.CardLaws.{keeps_laws}
 use Rattle.card.proofs.card.Card.ask.Goals as goal
@@ -16,7 +16,7 @@ pub returns-in-None-clause-laws : goal.returns-in-None-clause-laws
 returns-in-None-clause-laws g c = keeps_laws g.met.R.Rule.bounded g.S.Store g.met.S.Store.sound _ _ c.self.view_is _
 
 pub returns-in-Some-clause-step : goal.returns-in-Some-clause-step
-returns-in-Some-clause-step g c = 
+returns-in-Some-clause-step g c =
     rw (← c.self.view_is) (asked_some _ _ _ _ _ _ c.if-self.false c.in-Some.ensures (c.new.ensures.length ∙ c.event_length.ensures))
 
 pub returns-in-Some-clause-laws : goal.returns-in-Some-clause-laws

@@ -1,8 +1,6 @@
-use Rattle.std.proofs.Common.{◌≡◌, ◌<◌, length, Err, refl, ap, ◌∙◌, arith, rules}
-use Rattle.std.proofs.lemmas.Result.{err_from_is_err_and}
-use Rattle.card.specs.declared.call.Call.TheVariants.{Load}
+use Rattle.std.proofs.Common.{◌<◌, length, ap, ◌∙◌, arith}
 use Rattle.card.proofs.CardLaws.{keeps_laws_list}
-use Rattle.card.proofs.Carrying.{lent_fits, row_short, row_fits, refused_out, upto_next, upto_all}
+use Rattle.card.proofs.Carrying.{upto_next}
 use Rattle.card.proofs.card.Card.carry_out.Goals as goal
 
 pub returns-then-answers-calls-clause-laws : goal.returns-then-answers-calls-clause-laws

@@ -1,4 +1,3 @@
-use Rattle.std.proofs.Common.{refl}
 use Rattle.card.proofs.Fetching.{fetch_refused, fetch_refused_short, fetch_done, bytes_written, oldest_long}
 use Rattle.card.proofs.CardLaws.{keeps_laws}
 use Rattle.card.proofs.card.Card.fetch.Goals as goal
@@ -10,7 +9,7 @@ pub returns-then-not-self-clause-laws : goal.returns-then-not-self-clause-laws
 returns-then-not-self-clause-laws g c = keeps_laws g.met.R.Rule.bounded g.S.Store g.met.S.Store.sound _ _ c.self.view_is _
 
 pub returns-then-buffer-length-clause-step : goal.returns-then-buffer-length-clause-step
-returns-then-buffer-length-clause-step g c = 
+returns-then-buffer-length-clause-step g c =
     rw (← c.self.view_is)
     (fetch_refused_short _ _ _ c.oldest-lengths.result c.oldest-lengths.ensures _ _ _ c.if-not-self.false c.event_length-length.ensures
     c.if-buffer-length.true)
@@ -19,7 +18,7 @@ pub returns-then-buffer-length-clause-laws : goal.returns-then-buffer-length-cla
 returns-then-buffer-length-clause-laws g c = keeps_laws g.met.R.Rule.bounded g.S.Store g.met.S.Store.sound _ _ c.self.view_is _
 
 pub returns-clause-step : goal.returns-clause-step
-returns-clause-step g c = 
+returns-clause-step g c =
     let core = c.self.inside.core in
     let lists = g.S.Store.lists c.self.inside.store in
     let room = g.S.Store.room c.self.inside.store in
@@ -29,7 +28,7 @@ returns-clause-step g c =
     c.pop_front.ensures c.take_event.ensures.out)
 
 pub returns-clause-written : goal.returns-clause-written
-returns-clause-written g c = 
+returns-clause-written g c =
     let core = c.self.inside.core in
     let lists = g.S.Store.lists c.self.inside.store in
     let room = g.S.Store.room c.self.inside.store in

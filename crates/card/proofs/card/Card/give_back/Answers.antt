@@ -1,4 +1,3 @@
-use Rattle.std.proofs.Common.{refl}
 use Rattle.card.proofs.Calls.{gave_back, gave_back_refused}
 use Rattle.card.proofs.CardLaws.{keeps_laws}
 use Rattle.card.proofs.card.Card.give_back.Goals as goal

@@ -1,4 +1,3 @@
-use Rattle.std.proofs.Common.{refl}
 use Rattle.std.proofs.lemmas.Result.{err_from_is_err_and}
 use Rattle.card.proofs.Loading.{load_running, load_refused, load_taken}
 use Rattle.card.proofs.CardLaws.{keeps_laws}
@@ -11,7 +10,7 @@ pub returns-in-Some-clause-laws : goal.returns-in-Some-clause-laws
 returns-in-Some-clause-laws g c = keeps_laws g.met.R.Rule.bounded g.S.Store g.met.S.Store.sound _ _ c.self.view_is _
 
 pub returns-in_err-setting-clause-step : goal.returns-in_err-setting-clause-step
-returns-in_err-setting-clause-step g c = 
+returns-in_err-setting-clause-step g c =
     let p = err_from_is_err_and c.from_residual.result c.from_residual.ensures.1 in
     rw (← c.self.view_is, p.1, p.2) (load_refused _ _ _ _ _ _ c.in_default.is c.in_err-setting.ensures.means)
 
@@ -19,7 +18,7 @@ pub returns-in_err-setting-clause-laws : goal.returns-in_err-setting-clause-laws
 returns-in_err-setting-clause-laws g c = keeps_laws g.met.R.Rule.bounded g.S.Store g.met.S.Store.sound _ _ c.self.view_is _
 
 pub returns-clause-step : goal.returns-clause-step
-returns-clause-step g c = 
+returns-clause-step g c =
     rw (← c.self.view_is) (load_taken _ _ _ _ _ _ _ c.in_default.is c.in_ok-setting.ensures.means (c.apply.ensures _ _))
 
 pub returns-clause-laws : goal.returns-clause-laws

@@ -1,6 +1,5 @@
-use Rattle.std.proofs.Common.{ℕ, List, [], refl, ◌∙◌, ap₂}
+use Rattle.std.proofs.Common.{[]}
 use Rattle.card_model.proofs.Assembly.{three_laws}
-use Rattle.card.specs.Abstraction.{state_of}
 use Rattle.card.proofs.card.Card.new.Goals as goal
 
 pub returns-clause-laws : goal.returns-clause-laws

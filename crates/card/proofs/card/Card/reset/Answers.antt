@@ -1,4 +1,3 @@
-use Rattle.std.proofs.Common.{refl}
 use Rattle.card.proofs.Calls.{reset_out, was_reset_to}
 use Rattle.card.proofs.CardLaws.{keeps_laws}
 use Rattle.card.proofs.card.Card.reset.Goals as goal
@@ -10,7 +9,7 @@ pub returns-then-self-clause-laws : goal.returns-then-self-clause-laws
 returns-then-self-clause-laws g c = keeps_laws g.met.R.Rule.bounded g.S.Store g.met.S.Store.sound _ _ c.self.view_is _
 
 pub returns-clause-step : goal.returns-clause-step
-returns-clause-step g c = 
+returns-clause-step g c =
     rw (← c.self.view_is) (was_reset_to _ _ _ _ _ _ _ c.if-self.false c.restart.ensures c.clear.ensures.lists c.clear.ensures.room)
 
 pub returns-clause-laws : goal.returns-clause-laws

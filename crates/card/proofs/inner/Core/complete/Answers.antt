@@ -1,4 +1,3 @@
-use Rattle.std.proofs.Common.{refl}
 use Rattle.strips.specs.Fibre.{numbers}
 use Rattle.card.proofs.Losing.{completed_as}
 use Rattle.card.proofs.inner.Core.complete.Goals as goal

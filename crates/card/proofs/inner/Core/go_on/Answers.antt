@@ -1,5 +1,4 @@
 use Rattle.strips.specs.Fibre.{numbers}
-use Rattle.card.proofs.Clocking.{not_last}
 use Rattle.card.proofs.Losing.{last_leads}
 use Rattle.card.proofs.inner.Core.go_on.Goals as goal
 

@@ -1,5 +1,4 @@
-use Rattle.std.proofs.Common.{arith, below_more}
-use Rattle.std.proofs.lemmas.Bool.{le-ltb}
+use Rattle.std.proofs.Common.{arith}
 use Rattle.card.proofs.Losing.{loss_many, loss_room, loss_none}
 use Rattle.card.proofs.inner.Core.loss.Goals as goal
 

@@ -1,5 +1,5 @@
 use Rattle.std.proofs.Common.{arith}
-use Rattle.card.proofs.Formed.{never_too_long, record_of_fibre}
+use Rattle.card.proofs.Formed.{never_too_long}
 use Rattle.card.proofs.record.Record.form.Goals as goal
 
 pub unreachable-requires-in-Err-write_fibre : goal.unreachable-requires-in-Err-write_fibre
