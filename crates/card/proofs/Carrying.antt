@@ -6,8 +6,8 @@ use Rattle.std.specs.List.{AllByRecursion}
 use Rattle.std.proofs.lemmas.List.{map_push, map_more, reverse-append, take_more_set, take_all, take-take, take-append-le, drop-take, drop-drop, drop_at, drop-set-lt, length-take-le, length-drop}
 use Rattle.std.proofs.ByRecursion.{All-push, All-weaker}
 use Rattle.std.proofs.lemmas.Slice.{take-put_mid_below, drop-put_mid}
-use Rattle.std.proofs.lemmas.List.Sums.{sum_by_more, sum_by-take-le}
-use Rattle.std.proofs.lemmas.Bool.{cases_Bool, cond-true, cond-false, leb-true, le-leb, lt-leb}
+use Rattle.std.proofs.lemmas.List.Sums.{sum_by_more}
+use Rattle.std.proofs.lemmas.Bool.{cases_Bool, cond-false, leb-true}
 use Rattle.terms.specs.declared.refusal.Refusal.{Refusal}
 use Rattle.terms.specs.declared.refusal.Refusal.TheVariants.{BufferTooShort}
 use Rattle.rules.specs.Rules.{Meaning}
@@ -18,36 +18,11 @@ use Rattle.card_model.specs.Runs.{state_after, answers}
 use Rattle.card.specs.declared.call.Call.{Call}
 use Rattle.card.specs.declared.call.Call.TheVariants as calls
 use Rattle.card.specs.declared.answer.Answer.TheVariants as the
-use Rattle.card.specs.declared.clocked.Clocked.{Clocked}
-use Rattle.card.specs.declared.clocked.Clocked.TheVariants as clocked
 use Rattle.card.specs.declared.slip.Refused.{Refused}
-use Rattle.card.specs.Steps.{Stepped, Fetched, said_clocked, said_fetch}
-use Rattle.card.specs.Carrying.{Reply, call_of, answer_of, fetch_answer, lent_to, lent_in, newest_first, state_from, answers_from, largest_count, bytes_question, carry_questions, LiesWithin, Answered, Carried, CarriedOut, RunThrough, RunOut}
+use Rattle.card.specs.Steps.{Stepped, Fetched, said_fetch}
+use Rattle.card.specs.Carrying.{Reply, call_of, answer_of, fetch_answer, lent_to, lent_in, newest_first, state_from, answers_from, largest_count, bytes_question, LiesWithin, Answered, Carried, CarriedOut, RunThrough, RunOut}
 
 -- ---- one call
-
--- an answer with which no bytes come
-abbrev pub NoBytes : model.Answer → Type 0
-NoBytes (model.kept n) = Unit {0}
-NoBytes (model.fetched bytes) = ⊥
-NoBytes model.was_reset = Unit {0}
-NoBytes (model.plain p) = Unit {0}
-
-pub no_bytes_clocked : (c : Clocked) → NoBytes (said_clocked c)
-no_bytes_clocked clocked.Quiet = tt
-no_bytes_clocked (clocked.Synch s) = tt
-no_bytes_clocked (clocked.Kept n) = tt
-no_bytes_clocked (clocked.Lost l) = tt
-
-lies_anywhere : (from to : ℕ) (a : Reply) → NoBytes (answer_of [] a) → LiesWithin from to a
-lies_anywhere from to (Ok the.Taken) h = tt
-lies_anywhere from to (Ok (the.Clocked c)) h = tt
-lies_anywhere from to (Ok (the.Slip n)) h = tt
-lies_anywhere from to (Ok (the.Fetched at n)) h = absurd h
-lies_anywhere from to (Ok the.GivenBack) h = tt
-lies_anywhere from to (Ok (the.Level n)) h = tt
-lies_anywhere from to (Ok the.WasReset) h = tt
-lies_anywhere from to (Err e) h = tt
 
 lies_weaker : (from from' to to' : ℕ) → from' ≤ from → to ≤ to' → (a : Reply) → LiesWithin from to a → LiesWithin from' to' a
 lies_weaker from from' to to' l u (Ok the.Taken) h = tt
@@ -58,20 +33,6 @@ lies_weaker from from' to to' l u (Ok the.GivenBack) h = tt
 lies_weaker from from' to to' l u (Ok (the.Level n)) h = tt
 lies_weaker from from' to to' l u (Ok the.WasReset) h = tt
 lies_weaker from from' to to' l u (Err e) h = tt
-
--- a call with which no bytes come leaves the buffer as it is
-pub answered_plain : (meaning : Meaning) (before after : CardState) (call which : Call) (at : ℕ) (bytes : List ℕ) (said : model.Answer) (a : Reply)
-    → call ≡ which → Stepped meaning before (call_of which) after said → ((bs : List ℕ) → answer_of bs a ≡ said) → NoBytes said
-    → Answered meaning before call at bytes after a bytes
-answered_plain meaning before after call which at bytes said a same did is none =
-    record {
-      step =
-          subst (λ (x : model.Answer). Stepped meaning before (call_of call) after x) (sym (is bytes))
-          (subst (λ (x : Call). Stepped meaning before (call_of x) after said) (sym same) did);
-      lies = lies_anywhere at (at + lent_to call) a (subst NoBytes (sym (is [])) none);
-      earlier = refl;
-      later = refl;
-    }
 
 -- what the part of a buffer holds, read from the whole
 part_read : (at k n : ℕ) (bytes ys : List ℕ) → at ≤ length bytes → n ≤ length ys → take n (drop at (put_mid at k bytes ys)) ≡ take n ys
@@ -138,10 +99,6 @@ newest_more cs i d here = ap reverse (map_more call_of cs i d here) ∙ reverse-
 
 -- ---- what a list of calls is lent
 
-pub lent_more : (cs : List Call) (i : ℕ) (d : Call) (sum n : ℕ) → i < length cs → sum ≡ lent_in (take i cs) → n ≡ lent_to (get_or cs i d)
-    → sum + n ≡ lent_in (take (i + 1) cs)
-lent_more cs i d sum n here e is = ap₂ (λ (x y : ℕ). x + y) e is ∙ sym (sum_by_more lent_to cs i d here)
-
 -- a buffer that is long enough for all
 enough : (lent long : ℕ) → Ok tt ≡ bytes_question lent long → lent ≤ long
 enough lent long e =
@@ -151,26 +108,6 @@ enough lent long e =
     let z : ◌≡◌ {A = ℕ} 0 1 = cc in
     absurd (omega arith))
     (cases_Bool (leb lent long))
-
--- is long enough for the next
-pub lent_fits : (cs : List Call) (i : ℕ) (d : Call) (at long : ℕ) → i < length cs → at ≡ lent_in (take i cs) → Ok tt ≡ bytes_question (lent_in cs) long
-    → at + lent_to (get_or cs i d) ≤ long
-lent_fits cs i d at long here e is =
-    omega (arith, lent_more cs i d at (lent_to (get_or cs i d)) here e refl, sum_by-take-le lent_to cs (i + 1), enough (lent_in cs) long is)
-
--- the questions about a list
-pub row_short : (cs : List Call) (row long : ℕ) → row < length cs → Err (BufferTooShort (length cs)) ≡ carry_questions cs row long
-row_short cs row long h = sym (cond-false (leb (length cs) row) (bytes_question (lent_in cs) long) (Err (BufferTooShort (length cs))) (lt-leb (length cs) row h))
-
-pub row_fits : (cs : List Call) (row long : ℕ) (r : Result (Unit {0}) Refusal) → length cs ≤ row → r ≡ bytes_question (lent_in cs) long → r ≡ carry_questions cs row long
-row_fits cs row long r h e =
-    e ∙ sym (cond-true (leb (length cs) row) (bytes_question (lent_in cs) long) (Err (BufferTooShort (length cs))) (le-leb (length cs) row h))
-
--- a refusal changed nothing
-pub refused_out : (meaning : Meaning) (before : CardState) (cs : List Call) (row : List Reply) (bytes : List ℕ) (r : Result (Unit {0}) Refusal) (e : Refusal)
-    → r ≡ Err e → CarriedOut meaning before cs row bytes before row bytes r
-refused_out meaning before cs row bytes r e is =
-    subst (CarriedOut meaning before cs row bytes before row bytes) (sym is) (record { state = refl; answers = refl; buffer = refl })
 
 -- ---- call by call
 

@@ -167,16 +167,6 @@ as_read samples read is meaning s then answer step =
     subst (λ (xs : List ℕ). Stepped meaning s (clock xs) then answer) is.same
     (step (subst (λ (xs : List ℕ). too_large xs ≡ None) (sym is.same) is.fits))
 
--- within a capture: its last Clock or another
-pub not_last : (meaning : Meaning) (s : CardState) (ws : List Watch) (capture : model.Capture) (samples : List ℕ) (then : CardState) (answer : Answer)
-    → (capture.position ≡ 279 → ⊥) → Leads (within s ws capture samples) then answer
-    → Leads (in_capture (eqb capture.position last_position) meaning s ws capture samples) then answer
-not_last meaning s ws capture samples then answer other leads =
-    let e = cond-false (eqb capture.position last_position) (completing s ws (records_of meaning s.settings (all_columns capture samples)))
-    (within s ws capture samples) (ne_eqb capture.position 279 other)
-    in
-    subst (λ (o : Outcome). Leads o then answer) (sym e) leads
-
 pub is_last : (meaning : Meaning) (s : CardState) (ws : List Watch) (capture : model.Capture) (samples : List ℕ) (then : CardState) (answer : Answer)
     → capture.position ≡ 279 → Leads (completing s ws (records_of meaning s.settings (all_columns capture samples))) then answer
     → Leads (in_capture (eqb capture.position last_position) meaning s ws capture samples) then answer

@@ -7,6 +7,7 @@ use Rattle.std.proofs.lemmas.List.{length-map, length-set, map-set, get_or-map, 
 use Rattle.std.proofs.lemmas.Bool.{cond-true, cond-false, le-leb, lt-leb, le-ltb}
 use Rattle.strips.specs.declared.sample.Sample.{Sample}
 use Rattle.strips.specs.Fibre.{numbers}
+use Rattle.strips.proofs.Rows.{same_map}
 use Rattle.card_model.specs.Clock.{first_sample}
 use Rattle.card_model.proofs.Fibres.{get_or_for, for_same}
 use Rattle.card.specs.declared.row.Row.{Row}
@@ -14,7 +15,6 @@ use Rattle.card.specs.Abstraction.{rows_in, sample_at, column_at, columns_before
 use Rattle.card.specs.Columns.{ColumnSet}
 use Rattle.card.specs.Samples.{IsReadAs}
 use Rattle.card.proofs.Fibres.{filled, none_too_large, Upto, upto_here, upto_more, upto_all}
-use Rattle.card.proofs.Queue.{map_same}
 
 -- samples as numbers
 pub length_numbers : (samples : List Sample) → length (numbers samples) ≡ length samples
@@ -28,9 +28,6 @@ pub record ReadUpto (samples : List ℕ) (i : ℕ) (read : List Sample) : Type 0
   pub long : length read ≡ 12
   pub fit : (k : ℕ) → k < i → ltb 1023 (get_or samples k 0) ≡ false
   pub same : (k : ℕ) → k < i → get_or (numbers read) k 0 ≡ get_or samples k 0
-
-pub read_none : (samples : List ℕ) (read : List Sample) → length read ≡ 12 → ReadUpto samples 0 read
-read_none samples read long = record { long = long; fit = λ k h. absurd (omega arith); same = λ k h. absurd (omega arith) }
 
 pub read_more : (samples : List ℕ) (read : List Sample) (i : ℕ) (x : Sample) → i < 12 → ReadUpto samples i read → x.value ≡ get_or samples i 0
     → ReadUpto samples (i + 1) (set read i x)
@@ -134,7 +131,7 @@ module _ (before : List (List ℕ)) (place : ℕ) (samples : List ℕ) (after : 
   column_more position late is =
       let next : position + 1 - first_sample ≡ place + 1 = omega arith in
       let old : map (column_at after) (range_with_len 0 place) ≡ map (column_at before) (range_with_len 0 place) =
-      map_same (column_at after) (column_at before) place (λ p h. other_column p (omega arith))
+      same_map (column_at after) (column_at before) 0 place (λ p from h. other_column p (omega arith))
       in
       ap (λ (n : ℕ). map (column_at after) (range_with_len 0 n)) next
       ∙ (map-range_with_len_more (column_at after) 0 place place (omega arith)

@@ -1,16 +1,15 @@
 -- Taking an event's records one after the other.
 -- Assumes nothing.
-use Rattle.std.proofs.Common.{◌≡◌, ℕ, zero, suc, ◌+◌, ◌-◌, ◌<◌, ◌≤◌, Bool, true, false, cond, ltb, leb, List, [], ◌∷◌, ◌++◌, map, length, get_or, take, drop, set, replicate, Ok, Err, sum_by, Result, sym, refl, ap, ◌∙◌, add-zero, arith}
+use Rattle.std.proofs.Common.{◌≡◌, ℕ, zero, suc, ◌+◌, ◌-◌, ◌<◌, ◌≤◌, true, false, leb, List, [], ◌∷◌, ◌++◌, map, length, get_or, take, drop, set, replicate, sum_by, sym, refl, ap, ◌∙◌, add-zero, arith}
 use borrow.Rule.Slice.PartMut.{put_mid}
 use Rattle.std.specs.List.{range_with_len, flat_map}
 use Rattle.std.proofs.lemmas.List.FromFn.{map-range_with_len_more, length-map-range_with_len}
 use Rattle.std.proofs.lemmas.List.Edits.{length-between}
-use Rattle.std.proofs.lemmas.List.{flat_map_more, append_assoc, length-append, length-take-le, length-replicate, take_at, drop_at, drop-drop, drop_more, drop_all, append-nil, set_at, set-get_or, get_or_at}
+use Rattle.std.proofs.lemmas.List.{flat_map_more, append_assoc, length-append, length-take-le, length-replicate, take_at, drop_at, drop-drop, drop_more, drop_all, append-nil, set_at, get_or_at}
 use Rattle.std.proofs.lemmas.List.Sums.{sum_by-cons}
-use Rattle.std.proofs.lemmas.Bool.{leb-true, le-leb, lt-leb, lt-ltb, cond_both, cond-true, cond-false}
-use Rattle.terms.specs.declared.refusal.Refusal.{Refusal}
-use Rattle.terms.specs.declared.refusal.Refusal.TheVariants.{NoSuchFibre, StoreEmpty, NoSlipOut, BufferTooShort}
-use Rattle.stores.specs.Store.{waiting, take_questions}
+use Rattle.std.proofs.lemmas.Bool.{leb-true, le-leb, lt-leb, cond_both, cond-true, cond-false}
+use Rattle.terms.specs.declared.refusal.Refusal.TheVariants.{NoSlipOut, BufferTooShort}
+use Rattle.stores.specs.Store.{waiting}
 use Rattle.rules.specs.Rules.{Meaning}
 use Rattle.card_model.specs.Fibres.{for_fibres, total, in_fibre_order}
 use Rattle.card_model.specs.Calls.{fetch, fetched, plain, refused}
@@ -151,27 +150,6 @@ pub written_all : (lengths : List ℕ) (lists : List (List ℕ)) (buffer : List 
     → written_before lengths lists buffer 12 ≡ in_fibre_order (record_in lengths lists) ++ drop (event_length lengths) buffer
 unfolding in_fibre_order total
 written_all lengths lists buffer = refl
-
--- fewer bytes wait on a fibre than are asked for
-not_so_many : (b : Bool) (e d : Refusal) → ◌≡◌ {A = Result (Unit {0}) Refusal} (Err e) (cond b (Ok tt) (Err d)) → b ≡ false
-not_so_many true e d h = let z : ◌≡◌ {A = ℕ} 0 1 = cc in absurd (omega arith)
-not_so_many false e d h = refl
-
-pub fewer_wait : (level f n : ℕ) (e : Refusal) → f < 12 → Err e ≡ take_questions level f n → leb n level ≡ false
-fewer_wait level f n e below h =
-    not_so_many (leb n level) e StoreEmpty (h ∙ cond-true (ltb f 12) (cond (leb n level) (Ok tt) (Err StoreEmpty)) (Err NoSuchFibre) (lt-ltb f 12 below))
-
-pub left_alone : (lists after : List (List ℕ)) (f n : ℕ) → leb n (length (waiting lists f)) ≡ false → after ≡ lists
-    → after ≡ set lists f (left_in n (waiting lists f))
-left_alone lists after f n few e =
-    e ∙ sym (ap (set lists f) (cond-false (leb n (length (waiting lists f))) (drop n (waiting lists f)) (waiting lists f) few) ∙ set-get_or lists f [])
-
-pub zeros_given : (list out kept zeros : List ℕ) → leb (length out) (length list) ≡ false → kept ≡ out → zeros ≡ replicate (length kept) 0
-    → zeros ≡ taken_from (length out) list
-zeros_given list out kept zeros few e z =
-    z
-    ∙ (ap (λ (xs : List ℕ). replicate (length xs) 0) e
-    ∙ sym (cond-false (leb (length out) (length list)) (take (length out) list) (replicate (length out) 0) few))
 
 -- the bytes of an event are as many as its lengths say
 pub length_event : (lengths : List ℕ) (lists : List (List ℕ)) → length (in_fibre_order (record_in lengths lists)) ≡ event_length lengths

@@ -86,11 +86,6 @@ loaded_as core setting s tickers e w lists room =
       readout = (state_of core lists room).readout;
     }) e w
 
--- nothing in an option that holds nothing
-pub none_from : {X : Type 0} (o : Option X) → ((x : X) → o ≡ Some x → ⊥) → o ≡ None
-none_from None h = refl
-none_from (Some x) h = absurd (h x refl)
-
 module _ (meaning : Meaning) (core : Core) (lists : List (List ℕ)) (room word : ℕ) where
   pub load_running : (k : Capture) → core.capture ≡ Some k
       → Stepped meaning (state_of core lists room) (load word) (state_of core lists room) (plain (refused CaptureRunning))

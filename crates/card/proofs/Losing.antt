@@ -1,10 +1,10 @@
 -- Whether a completed event is lost, and what is kept.
 -- Assumes nothing.
-use Rattle.std.proofs.Common.{◌≡◌, ℕ, ◌+◌, ◌-◌, ◌<◌, ◌≤◌, Bool, true, false, cond, eqb, ltb, leb, List, [], ◌∷◌, ◌++◌, length, get_or, Some, None, Ok, Option, sym, refl, ap, ◌∙◌, subst, ap₂, arith}
+use Rattle.std.proofs.Common.{◌≡◌, ℕ, ◌-◌, ◌<◌, ◌≤◌, Bool, true, false, cond, eqb, ltb, leb, List, [], ◌∷◌, ◌++◌, length, get_or, Some, None, Ok, Option, sym, refl, ap, ◌∙◌, subst, ap₂, arith}
 use Rattle.std.proofs.lemmas.List.{get_or_default}
 use Rattle.std.proofs.lemmas.Bool.{cond-true, cond-false, le-leb, lt-leb, lt-ltb, leb-false, ltb-false}
 use Rattle.rules.specs.Rules.{Meaning}
-use Rattle.stores.specs.Store.{waiting, level_of, appended, put_questions}
+use Rattle.stores.specs.Store.{waiting, level_of, put_questions}
 use Rattle.stores.proofs.Lists.{put_may}
 use Rattle.card_model.specs.Fibres.{for_fibres, lowest}
 use Rattle.card_model.specs.Calls as model
@@ -22,7 +22,7 @@ use Rattle.card.specs.Abstraction.{watches_in, rows_in, columns_before, running,
 use Rattle.card.proofs.Clocking.{with_capture, is_last}
 use Rattle.card.specs.Event.{exceeds_by, loss_by, FitsAll}
 use Rattle.card.specs.Steps.{Leads, loss_in}
-use Rattle.card.proofs.Fibres.{Upto, upto_here, upto_more, lowest_some}
+use Rattle.card.proofs.Fibres.{Upto, upto_here, lowest_some}
 
 -- the loss by the lengths is the loss by the records
 pub loss_as : (r : Readout) (event : List (List ℕ)) (lengths : List ℕ) → lengths ≡ lengths_of event
@@ -80,14 +80,6 @@ module _ (before records : List (List ℕ)) where
   -- what waits on a fibre with its record behind it
   abbrev pub put_by : ℕ → List ℕ
   put_by f = waiting before f ++ record_of records f
-
-  pub put_more : (lists after : List (List ℕ)) (i : ℕ) (bytes d : List ℕ) → i < 12 → length lists ≡ 12 → length records ≡ 12
-      → Upto put_by [] before i lists → bytes ≡ get_or records i d
-      → after ≡ appended lists i bytes → Upto put_by [] before (i + 1) after
-  put_more lists after i bytes d below twelve many inv are is =
-      subst (Upto put_by [] before (i + 1)) (sym is)
-      (upto_more put_by [] before i lists (waiting lists i ++ bytes) below twelve inv
-      (ap₂ (λ (xs ys : List ℕ). xs ++ ys) (upto_here put_by [] before i lists below inv) (are ∙ get_or_default records i d [] (omega arith))))
 
   -- a record that fits is put
   pub put_goes : (room : ℕ) (lists : List (List ℕ)) (i : ℕ) (bytes d : List ℕ) → i < 12 → length records ≡ 12 → FitsAll room before (lengths_of records)

@@ -4,16 +4,9 @@ use Rattle.std.proofs.Common.{◌≡◌, ℕ, zero, suc, ◌+◌, ◌-◌, ◌<�
 use Rattle.std.specs.List.{range_with_len}
 use Rattle.std.proofs.lemmas.List.FromFn.{length-map-range_with_len, get_or-map-range_with_len, map-range_with_len_more}
 use Rattle.std.proofs.lemmas.List.{same_lists, length-drop, get_or-drop, get_or-set_same, get_or-set_other}
+use Rattle.strips.proofs.Rows.{same_map}
 use Rattle.card.specs.declared.waiting.Waiting.TheInside.{Inside}
 use Rattle.card.specs.Queue.{round, event_at, queued, IsInRing, first_in}
-
--- two lists made of functions that agree
-pub map_same : {X : Type 0} (g h : ℕ → X) (n : ℕ) → ((k : ℕ) → k < n → g k ≡ h k) → map g (range_with_len 0 n) ≡ map h (range_with_len 0 n)
-map_same g h n e =
-    same_lists _ _ (length-map-range_with_len g 0 n ∙ sym (length-map-range_with_len h 0 n))
-    (λ k d l.
-    let below : k < n = omega (arith, length-map-range_with_len g 0 n) in
-    get_or-map-range_with_len g 0 n k k d below (omega arith) ∙ (e k below ∙ sym (get_or-map-range_with_len h 0 n k k d below (omega arith))))
 
 pub queued_length : (w : Inside) → length (queued w) ≡ w.count
 unfolding queued
@@ -54,7 +47,7 @@ pushed w w' x ring long room rows head count =
     get_or-set_other w.rows (round (w.head + n)) (round (w.head + k)) x [] apart
     in
     let same : map (event_at w'.rows w'.head) (range_with_len 0 w'.count) ≡ map h (range_with_len 0 (n + 1)) = cc in
-    same ∙ (map-range_with_len_more h 0 n n (omega arith) ∙ cc (map_same h g n old))
+    same ∙ (map-range_with_len_more h 0 n n (omega arith) ∙ cc (same_map h g 0 n (λ k from l. old k (omega arith))))
 
 pub popped : (w w' : Inside) → IsInRing w → 0 < w.count → w'.rows ≡ w.rows → w'.head ≡ round (w.head + 1) → w'.count ≡ w.count - 1
     → queued w' ≡ drop 1 (queued w)

@@ -1,12 +1,8 @@
 use Rattle.std.proofs.Common.{◌∙◌, arith}
 use Rattle.std.proofs.lemmas.List.{length-set}
 use Rattle.strips.specs.Fibre.{numbers}
-use Rattle.card.proofs.Fibres.{upto_none}
-use Rattle.card.proofs.Columns.{set_row, set_more, set_all, length_numbers, number_at}
+use Rattle.card.proofs.Columns.{set_more, set_all, length_numbers, number_at}
 use Rattle.card.proofs.column.set_column.Goals as goal
-
-pub loop-f-init : goal.loop-f-init
-loop-f-init c = (omega arith, upto_none (set_row c.args.rows.now c.args.place (numbers c.args.samples.now)) _ _)
 
 pub loop-f-preserved : goal.loop-f-preserved
 loop-f-preserved c =

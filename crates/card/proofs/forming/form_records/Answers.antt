@@ -1,11 +1,7 @@
 use Rattle.std.proofs.Common.{◌∙◌, arith}
 use Rattle.std.proofs.lemmas.List.{length-set}
-use Rattle.card.proofs.Fibres.{upto_none}
 use Rattle.card.proofs.Formed.{formed_more, formed_all}
 use Rattle.card.proofs.forming.form_records.Goals as goal
-
-pub loop-f-init : goal.loop-f-init
-loop-f-init g c = (omega arith, upto_none _ _ _)
 
 pub loop-f-preserved : goal.loop-f-preserved
 loop-f-preserved g c =

@@ -1,11 +1,8 @@
-use Rattle.std.proofs.Common.{refl, ◌∙◌, arith}
+use Rattle.std.proofs.Common.{arith}
 use Rattle.stores.proofs.Lists.{not_granted}
-use Rattle.card.proofs.Fibres.{upto_none, upto_all}
-use Rattle.card.proofs.Losing.{put_by, put_goes, put_more}
+use Rattle.card.proofs.Fibres.{upto_all}
+use Rattle.card.proofs.Losing.{put_by, put_goes}
 use Rattle.card.proofs.putting.put_records.Goals as goal
-
-pub loop-f-init : goal.loop-f-init
-loop-f-init g c = (refl, upto_none _ _ _)
 
 pub unreachable-requires : goal.unreachable-requires
 unreachable-requires g c =
@@ -14,21 +11,8 @@ unreachable-requires g c =
     (put_goes (s.lists c.args.store.now) c.args.records.now (s.room c.loop-f.store) (s.lists c.loop-f.store) c.loop-f.f _ _
     (omega arith) (omega arith) (λ f h. omega (arith, c.requires f h, c.loop-f.invariant.0)) c.loop-f.invariant.1 c.as_slice.ensures)
 
-pub loop-f-preserved : goal.loop-f-preserved
-loop-f-preserved g c =
+pub returns-clause-lists : goal.returns-clause-lists
+returns-clause-lists g c =
     let s = g.S.Store in
-    let did = c.in-Ok.ensures in (
-      did.room ∙ c.loop-f.invariant.0,
-      put_more (s.lists c.args.store.now) c.args.records.now (s.lists c.loop-f.store) _ c.loop-f.f _ _ (omega arith)
-          (g.met.S.Store.sound c.loop-f.store).twelve (omega arith) c.loop-f.invariant.1 c.as_slice.ensures did.lists,
-    )
-
-pub returns : goal.returns
-returns g c =
-    let s = g.S.Store in
-    record {
-      lists =
-          upto_all (put_by (s.lists c.args.store.now) c.args.records.now) _ _ c.loop-f.f (s.lists c.loop-f.store) (omega arith)
-          (g.met.S.Store.sound c.loop-f.store).twelve c.loop-f.invariant.1;
-      room = c.loop-f.invariant.0;
-    }
+    upto_all (put_by (s.lists c.args.store.now) c.args.records.now) _ _ c.loop-f.f (s.lists c.loop-f.store) (omega arith)
+    (g.met.S.Store.sound c.loop-f.store).twelve c.loop-f.invariant.1

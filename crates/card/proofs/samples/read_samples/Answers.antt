@@ -1,10 +1,7 @@
 use Rattle.std.proofs.Common.{refl, arith}
 use Rattle.card.proofs.Fibres.{some_too_large}
-use Rattle.card.proofs.Columns.{read_none, read_more, read_all}
+use Rattle.card.proofs.Columns.{read_more, read_all}
 use Rattle.card.proofs.samples.read_samples.Goals as goal
-
-pub loop-f-init : goal.loop-f-init
-loop-f-init c = read_none c.args.samples.now _ refl
 
 pub returns-in-None-clause-large : goal.returns-in-None-clause-large
 returns-in-None-clause-large c =

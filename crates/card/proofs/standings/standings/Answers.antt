@@ -1,14 +1,7 @@
-use Rattle.std.proofs.Common.{refl, ◌∙◌, arith}
+use Rattle.std.proofs.Common.{◌∙◌, arith}
 use Rattle.std.proofs.lemmas.List.{length-set}
-use Rattle.card.proofs.Fibres.{upto_none}
-use Rattle.card.proofs.Ticking.{stands, stands_more, stands_all}
+use Rattle.card.proofs.Ticking.{stands_more, stands_all}
 use Rattle.card.proofs.standings.standings.Goals as goal
-
-pub loop-f-init : goal.loop-f-init
-loop-f-init c = (
-  refl,
-  upto_none (stands c.args.settings.now c.args.tickers.now c.args.in_step.now) _ _,
-)
 
 pub loop-f-preserved : goal.loop-f-preserved
 loop-f-preserved c =

@@ -35,14 +35,16 @@ loop-f-preserved g c =
       c.take_record.ensures.room ∙ c.loop-f.invariant.3,
     )
 
-pub returns : goal.returns
-returns g c =
-    let s = g.S.Store in
+pub returns-clause-lists : goal.returns-clause-lists
+returns-clause-lists g c =
     let lengths = c.args.lengths.now in
-    let lists = s.lists c.args.store.now in
+    let lists = g.S.Store.lists c.args.store.now in
     let end : c.loop-f.f ≡ 12 = omega arith in
-    record {
-      lists = c.loop-f.invariant.1 ∙ (ap (lists_before lengths lists) end ∙ lists_all lengths lists (g.met.S.Store.sound c.args.store.now).twelve);
-      out = c.loop-f.invariant.2 ∙ (ap (written_before lengths lists c.args.out.now) end ∙ written_all lengths lists c.args.out.now);
-      room = c.loop-f.invariant.3;
-    }
+    c.loop-f.invariant.1 ∙ (ap (lists_before lengths lists) end ∙ lists_all lengths lists (g.met.S.Store.sound c.args.store.now).twelve)
+
+pub returns-clause-out : goal.returns-clause-out
+returns-clause-out g c =
+    let lengths = c.args.lengths.now in
+    let lists = g.S.Store.lists c.args.store.now in
+    let end : c.loop-f.f ≡ 12 = omega arith in
+    c.loop-f.invariant.2 ∙ (ap (written_before lengths lists c.args.out.now) end ∙ written_all lengths lists c.args.out.now)

@@ -1,20 +1,9 @@
-use Rattle.std.proofs.Common.{false, replicate, refl, ◌∙◌, arith}
+use Rattle.std.proofs.Common.{◌∙◌, arith}
 use Rattle.std.proofs.lemmas.List.{length-set}
 use Rattle.strips.specs.Fibre.{numbers}
-use Rattle.card_model.specs.State.{off}
-use Rattle.card.specs.Abstraction.{watches_in}
 use Rattle.card.proofs.Columns.{number_at}
-use Rattle.card.proofs.Fibres.{upto_none}
-use Rattle.card.proofs.Ticking.{ticked_by, pulsed_by, ticked_more, pulsed_more, ticked_all, pulsed_all}
+use Rattle.card.proofs.Ticking.{ticked_more, pulsed_more, ticked_all, pulsed_all}
 use Rattle.card.proofs.tick.tick.Goals as goal
-
-pub loop-f-init : goal.loop-f-init
-loop-f-init c = (
-  omega arith,
-  refl,
-  upto_none (ticked_by c.args.settings.now c.args.tickers.now (numbers c.args.samples.now)) off (watches_in c.args.tickers.now),
-  upto_none (pulsed_by c.args.settings.now c.args.tickers.now (numbers c.args.samples.now)) false (replicate 12 false),
-)
 
 pub loop-f-preserved : goal.loop-f-preserved
 loop-f-preserved c =
@@ -28,10 +17,12 @@ loop-f-preserved c =
           (omega arith) inv.0 inv.1 (omega arith) inv.2 inv.3 _ number c.level-level.ensures c.step.ensures.pulse,
     )
 
-pub returns : goal.returns
-returns c =
-    let inv = c.loop-f.invariant in
-    record {
-      watches = ticked_all c.args.settings.now c.args.tickers.now (numbers c.args.samples.now) c.loop-f.tickers c.loop-f.f (omega arith) inv.0 inv.2;
-      pulses = pulsed_all c.args.settings.now c.args.tickers.now (numbers c.args.samples.now) c.loop-f.pulses _ c.loop-f.f (omega arith) inv.1 inv.3;
-    }
+pub returns-clause-watches : goal.returns-clause-watches
+returns-clause-watches c =
+    ticked_all c.args.settings.now c.args.tickers.now (numbers c.args.samples.now) c.loop-f.tickers c.loop-f.f (omega arith) c.loop-f.invariant.0
+    c.loop-f.invariant.2
+
+pub returns-clause-pulses : goal.returns-clause-pulses
+returns-clause-pulses c =
+    pulsed_all c.args.settings.now c.args.tickers.now (numbers c.args.samples.now) c.loop-f.pulses _ c.loop-f.f (omega arith) c.loop-f.invariant.1
+    c.loop-f.invariant.3

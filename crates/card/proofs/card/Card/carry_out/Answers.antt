@@ -1,39 +1,13 @@
-use Rattle.std.proofs.Common.{◌≡◌, ◌<◌, length, Err, refl, ap, ◌∙◌, arith, rules}
-use Rattle.std.proofs.lemmas.Result.{err_from_is_err_and}
-use Rattle.card.specs.declared.call.Call.TheVariants.{Load}
-use Rattle.card.proofs.CardLaws.{card_laws_list}
-use Rattle.card.proofs.Carrying.{lent_fits, row_short, row_fits, refused_out, upto_next, upto_all}
+use Rattle.std.proofs.Common.{◌<◌, length, ap, ◌∙◌, arith}
+use Rattle.card.proofs.CardLaws.{keeps_laws_list}
+use Rattle.card.proofs.Carrying.{upto_next}
 use Rattle.card.proofs.card.Card.carry_out.Goals as goal
 
-pub returns-then-answers-calls : goal.returns-then-answers-calls
-returns-then-answers-calls g c =
-    record {
-      answer = row_short _ _ _ c.if-answers-calls.true;
-      run = record { state = refl; answers = refl; buffer = refl };
-      rule = refl;
-      laws = rw (← c.self.view_is) (card_laws_list g.S.Store _ (g.met.R.Rule.bounded _) _ _ (g.met.S.Store.sound _).limit _);
-    }
+pub returns-then-answers-calls-clause-laws : goal.returns-then-answers-calls-clause-laws
+returns-then-answers-calls-clause-laws g c = keeps_laws_list g.met.R.Rule.bounded g.S.Store g.met.S.Store.sound _ _ c.self.view_is _
 
-pub returns-in_err-lent_enough : goal.returns-in_err-lent_enough
-returns-in_err-lent_enough g c =
-    let p = err_from_is_err_and c.from_residual.result c.from_residual.ensures.1 in
-    record {
-      answer = row_fits c.args.calls.now (length c.args.answers.now) (length c.args.bytes.now) _ c.if-answers-calls.false (p.1 ∙ ap Err p.2 ∙ c.in_err-lent_enough.ensures);
-      run = refused_out _ _ c.args.calls.now c.args.answers.now c.args.bytes.now c.from_residual.result p.0 p.1;
-      rule = refl {a = c.args.self.now.rule};
-      laws = rw (← c.self.view_is) (card_laws_list g.S.Store _ (g.met.R.Rule.bounded _) _ _ (g.met.S.Store.sound _).limit _);
-    }
-
-pub answer-requires : goal.answer-requires
-answer-requires g c =
-    let fits = lent_fits c.args.calls.now c.loop-i.i (Load 0) c.loop-i.at (length c.args.bytes.now) c.loop-i-test.true c.loop-i.invariant.1.place c.in_ok-lent_enough.ensures in
-    omega arith
-
-pub overflow_add-at : goal.overflow_add-at
-overflow_add-at g c =
-    let fits = lent_fits c.args.calls.now c.loop-i.i (Load 0) c.loop-i.at (length c.args.bytes.now) c.loop-i-test.true c.loop-i.invariant.1.place c.in_ok-lent_enough.ensures in
-    let is = c.lent-at.ensures in
-    search rules
+pub returns-in_err-lent_enough-clause-laws : goal.returns-in_err-lent_enough-clause-laws
+returns-in_err-lent_enough-clause-laws g c = keeps_laws_list g.met.R.Rule.bounded g.S.Store g.met.S.Store.sound _ _ c.self.view_is _
 
 pub loop-i-preserved : goal.loop-i-preserved
 loop-i-preserved g c =
@@ -42,12 +16,5 @@ loop-i-preserved g c =
       upto_next _ _ _ _ _ c.loop-i.i c.loop-i.at _ c.loop-i.answers _ c.loop-i.invariant.1 _ (ap g.R.Rule.meaning c.loop-i.invariant.0) _ c.loop-i-test.true inside _ _ _ c.answer.ensures.step _ c.lent-at.ensures,
     )
 
-pub returns : goal.returns
-returns g c =
-    let end : c.loop-i.i ≡ length c.args.calls.now = omega arith in
-    record {
-      answer = row_fits _ _ _ _ c.if-answers-calls.false c.in_ok-lent_enough.ensures;
-      run = upto_all _ _ _ _ _ _ _ _ _ _ c.loop-i.invariant.1 end;
-      rule = c.loop-i.invariant.0;
-      laws = rw (← c.self.view_is) (card_laws_list g.S.Store _ (g.met.R.Rule.bounded _) _ _ (g.met.S.Store.sound _).limit _);
-    }
+pub returns-clause-laws : goal.returns-clause-laws
+returns-clause-laws g c = keeps_laws_list g.met.R.Rule.bounded g.S.Store g.met.S.Store.sound _ _ c.self.view_is _

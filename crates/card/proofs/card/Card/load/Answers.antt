@@ -1,29 +1,25 @@
-use Rattle.std.proofs.Common.{refl}
 use Rattle.std.proofs.lemmas.Result.{err_from_is_err_and}
 use Rattle.card.proofs.Loading.{load_running, load_refused, load_taken}
-use Rattle.card.proofs.CardLaws.{card_laws}
+use Rattle.card.proofs.CardLaws.{keeps_laws}
 use Rattle.card.proofs.card.Card.load.Goals as goal
 
-pub returns-in-Some : goal.returns-in-Some
-returns-in-Some g c =
-    rw (← c.self.view_is)
-    (record { step = load_running _ _ _ _ _ _ c.in-Some.is; rule = refl; laws = card_laws g.S.Store _ (g.met.R.Rule.bounded _) _ _ (g.met.S.Store.sound _).limit _ })
+pub returns-in-Some-clause-step : goal.returns-in-Some-clause-step
+returns-in-Some-clause-step g c = rw (← c.self.view_is) (load_running _ _ _ _ _ _ c.in-Some.is)
 
-pub returns-in_err-setting : goal.returns-in_err-setting
-returns-in_err-setting g c =
+pub returns-in-Some-clause-laws : goal.returns-in-Some-clause-laws
+returns-in-Some-clause-laws g c = keeps_laws g.met.R.Rule.bounded g.S.Store g.met.S.Store.sound _ _ c.self.view_is _
+
+pub returns-in_err-setting-clause-step : goal.returns-in_err-setting-clause-step
+returns-in_err-setting-clause-step g c =
     let p = err_from_is_err_and c.from_residual.result c.from_residual.ensures.1 in
-    rw (← c.self.view_is, p.1, p.2)
-    (record {
-      step = load_refused _ _ _ _ _ _ c.in_default.is c.in_err-setting.ensures.means;
-      rule = refl;
-      laws = card_laws g.S.Store _ (g.met.R.Rule.bounded _) _ _ (g.met.S.Store.sound _).limit _;
-    })
+    rw (← c.self.view_is, p.1, p.2) (load_refused _ _ _ _ _ _ c.in_default.is c.in_err-setting.ensures.means)
 
-pub returns : goal.returns
-returns g c =
-    rw (← c.self.view_is)
-    (record {
-      step = load_taken _ _ _ _ _ _ _ c.in_default.is c.in_ok-setting.ensures.means (c.apply.ensures _ _);
-      rule = refl;
-      laws = card_laws g.S.Store _ (g.met.R.Rule.bounded _) _ _ (g.met.S.Store.sound _).limit _;
-    })
+pub returns-in_err-setting-clause-laws : goal.returns-in_err-setting-clause-laws
+returns-in_err-setting-clause-laws g c = keeps_laws g.met.R.Rule.bounded g.S.Store g.met.S.Store.sound _ _ c.self.view_is _
+
+pub returns-clause-step : goal.returns-clause-step
+returns-clause-step g c =
+    rw (← c.self.view_is) (load_taken _ _ _ _ _ _ _ c.in_default.is c.in_ok-setting.ensures.means (c.apply.ensures _ _))
+
+pub returns-clause-laws : goal.returns-clause-laws
+returns-clause-laws g c = keeps_laws g.met.R.Rule.bounded g.S.Store g.met.S.Store.sound _ _ c.self.view_is _

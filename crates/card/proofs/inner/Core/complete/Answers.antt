@@ -1,10 +1,6 @@
-use Rattle.std.proofs.Common.{refl}
 use Rattle.strips.specs.Fibre.{numbers}
 use Rattle.card.proofs.Losing.{completed_as}
 use Rattle.card.proofs.inner.Core.complete.Goals as goal
-
-pub take_in-requires : goal.take_in-requires
-take_in-requires g c = refl
 
 pub returns : goal.returns
 returns g c =

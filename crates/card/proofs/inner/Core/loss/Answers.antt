@@ -1,16 +1,9 @@
-use Rattle.std.proofs.Common.{arith, below_more}
-use Rattle.std.proofs.lemmas.Bool.{le-ltb}
+use Rattle.std.proofs.Common.{arith}
 use Rattle.card.proofs.Losing.{loss_many, loss_room, loss_none}
 use Rattle.card.proofs.inner.Core.loss.Goals as goal
 
 pub returns-then-len-ge-MOST : goal.returns-then-len-ge-MOST
 returns-then-len-ge-MOST g c = loss_many _ _ _ _ (omega arith)
-
-pub loop-f-init : goal.loop-f-init
-loop-f-init g c = λ k h. absurd (omega arith)
-
-pub loop-f-preserved : goal.loop-f-preserved
-loop-f-preserved g c = below_more _ _ c.loop-f.invariant (le-ltb _ _ (omega arith))
 
 pub returns-then-length-free_room : goal.returns-then-length-free_room
 returns-then-length-free_room g c = loss_room _ _ _ _ c.loop-f.f (omega arith) (omega arith) (omega arith) c.loop-f.invariant

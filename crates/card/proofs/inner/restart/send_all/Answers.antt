@@ -1,13 +1,7 @@
 use Rattle.std.proofs.Common.{◌∙◌, arith}
 use Rattle.std.proofs.lemmas.List.{length-set}
-use Rattle.card_model.specs.State.{off}
-use Rattle.card.specs.Abstraction.{watches_in}
-use Rattle.card.proofs.Fibres.{upto_none}
-use Rattle.card.proofs.Restarting.{sent_by, sent_more, sent_all}
+use Rattle.card.proofs.Restarting.{sent_more, sent_all}
 use Rattle.card.proofs.inner.restart.send_all.Goals as goal
-
-pub loop-f-init : goal.loop-f-init
-loop-f-init c = (omega arith, upto_none (sent_by c.args.settings.now c.args.tickers.now) off (watches_in c.args.tickers.now))
 
 pub loop-f-preserved : goal.loop-f-preserved
 loop-f-preserved c = (

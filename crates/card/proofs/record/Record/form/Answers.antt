@@ -1,5 +1,5 @@
 use Rattle.std.proofs.Common.{arith}
-use Rattle.card.proofs.Formed.{never_too_long, record_of_fibre}
+use Rattle.card.proofs.Formed.{never_too_long}
 use Rattle.card.proofs.record.Record.form.Goals as goal
 
 pub unreachable-requires-in-Err-write_fibre : goal.unreachable-requires-in-Err-write_fibre
@@ -7,9 +7,3 @@ unreachable-requires-in-Err-write_fibre g c =
     never_too_long (g.R.Rule.meaning c.args.rule.now) c.in-Ok.fibre.index _ c.args.settings.now.mode c.args.row.now.samples
     c.self.inside.buffer (g.met.R.Rule.bounded c.args.rule.now) c.in-Ok.fibre.below c.args.row.now.full (omega arith)
     c.in-Err-write_fibre.ensures.1
-
-pub returns : goal.returns
-returns g c =
-    let w = c.in-Ok-write_fibre.ensures in
-    record_of_fibre (g.R.Rule.meaning c.args.rule.now) c.args.settings.now c.in-Ok.fibre.index c.args.f _ _ c.self.inside.buffer _ _
-    c.in-Ok.ensures c.requires (omega arith) w.0 w.2
