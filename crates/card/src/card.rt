@@ -13,6 +13,7 @@ pub(crate) mod level;
 pub(crate) mod load;
 pub(crate) mod new;
 pub(crate) mod reset;
+pub(crate) mod stands;
 
 #[derive(Drop)]
 pub struct Card<R: Rule + Drop, S: Store + Drop> {

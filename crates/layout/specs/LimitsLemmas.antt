@@ -1,7 +1,8 @@
 -- Limits of numbers: the test of a list, element by element.
-use Rattle.std.specs.Prelude.{◌≡◌, ℕ, suc, max, ◌<◌, ◌≤◌, Bool, true, false, ◌&&◌, List, [], ◌∷◌, nat_le, slice_index, refl}
+use Rattle.std.specs.Prelude.{◌≡◌, ℕ, suc, max, ◌+◌, ◌<◌, ◌≤◌, Bool, true, false, ◌&&◌, List, [], ◌∷◌, ◌++◌, length, take, nat_le, slice_index, refl}
 use Rattle.std.proofs.Common.{sym, ap, ◌∙◌, arith}
 use Rattle.std.specs.List.{AllByRecursion, fold}
+use Rattle.std.proofs.lemmas.List.{take_more}
 use Rattle.std.proofs.lemmas.Bool.{and_parts, and_from, leb-true, le-leb}
 use Rattle.std.proofs.lemmas.Bool.Decides.{nat_tests}
 use Rattle.layout.specs.Limits.{at_most}
@@ -47,3 +48,36 @@ none_above limit xs h = sym (tells limit xs) ∙ le-leb (fold max 0 xs) limit h
 
 pub some_above : (limit : ℕ) (xs : List ℕ) → limit < fold max 0 xs → at_most limit xs ≡ false
 some_above limit xs h = sym (tells limit xs) ∙ above limit (fold max 0 xs) h
+
+-- one number more, and the largest of the first ones
+at_most_push : (limit : ℕ) (xs : List ℕ) (x : ℕ) → at_most limit (xs ++ x ∷ []) ≡ (at_most limit xs && nat_le x limit)
+at_most_push limit [] x = regroup (nat_le x limit)
+  where
+    regroup : (b : Bool) → (b && true) ≡ b
+    regroup true = refl
+    regroup false = refl
+at_most_push limit (y ∷ xs) x =
+    ap (λ b. nat_le y limit && b) (at_most_push limit xs x) ∙ regroup (nat_le y limit) (at_most limit xs) (nat_le x limit)
+  where
+    regroup : (a b c : Bool) → (a && (b && c)) ≡ (a && b && c)
+    regroup true b c = refl
+    regroup false b c = refl
+
+-- the largest m of the first i numbers is within a limit where all of them are: with one more number it is m'
+pub largest_more :
+    (limit : ℕ) (xs : List ℕ) (i m m' : ℕ) →
+    i < length xs →
+    nat_le m limit ≡ at_most limit (take i xs) →
+    nat_le m' limit ≡ (nat_le m limit && nat_le (slice_index xs i) limit) →
+    nat_le m' limit ≡ at_most limit (take (i + 1) xs)
+largest_more limit xs i m m' h e f =
+    f
+    ∙ ap (λ t. t && nat_le (slice_index xs i) limit) e
+    ∙ sym (at_most_push limit (take i xs) (slice_index xs i))
+    ∙ sym (ap (at_most limit) (take_more xs i 0 h))
+
+pub larger_of : (limit m x : ℕ) → m < x → nat_le x limit ≡ (nat_le m limit && nat_le x limit)
+larger_of limit m x h = grind (arith, nat_tests)
+
+pub no_larger : (limit m x : ℕ) → x ≤ m → nat_le m limit ≡ (nat_le m limit && nat_le x limit)
+no_larger limit m x h = grind (arith, nat_tests)

@@ -25,7 +25,8 @@ impl Waiting {
     }
 
     pub(crate) fn len(&self) -> usize
-        ensures { result ≡ length self.now }
+        ensures count { result ≡ length self.now }
+        ensures few { result ≤ 255 }
     {
         self.count
     }

@@ -1,18 +1,39 @@
 // A ring as a store.
-ghost use Rattle.std.specs.Prelude.{◌≡◌, min};
+ghost use Rattle.std.specs.Prelude.{◌≡◌, min, length};
+ghost use Rattle.stores.specs.Cells.{byte_cell, word_cell};
 ghost use Rattle.stores.specs.Places.{lists_in};
 ghost use Rattle.stores.specs.Sound.{rings_sound};
-ghost use Rattle.stores.specs.Store.{empty_lists, largest};
+ghost use Rattle.stores.specs.Store.{empty_lists, largest, byte_capacity, word_capacity};
 
-use super::Ring;
+use super::{ByteRing, Ring, WordRing};
 use crate::index::Index;
 use crate::memory::Memory;
 use crate::store::Store;
 use terms::Refusal;
 
+impl<'a> Ring<&'a mut [u8]> {
+    // An empty store over lent bytes, whatever they hold: a twelfth of them for each fibre, 2,048 at most.
+    pub fn new(memory: &'a mut [u8]) -> ByteRing<'a>
+        ensures lists { lists_in result.index (byte_cell result.memory.now) ≡ empty_lists }
+        ensures room { result.index.capacity ≡ byte_capacity (length memory.old) }
+    {
+        Ring::over(memory)
+    }
+}
+
+impl<'a> Ring<&'a mut [u32]> {
+    // An empty store over lent words, whatever they hold: four times a twelfth of them for each fibre, 2,048 at most.
+    pub fn new(memory: &'a mut [u32]) -> WordRing<'a>
+        ensures lists { lists_in result.index (word_cell result.memory.now) ≡ empty_lists }
+        ensures room { result.index.capacity ≡ word_capacity (length memory.old) }
+    {
+        Ring::over(memory)
+    }
+}
+
 impl<M: Memory> Ring<M> {
-    // An empty store over memory, whatever it holds: a twelfth of it for each fibre, 2,048 at most.
-    pub fn new(memory: M) -> Ring<M>
+    // An empty store over memory, whatever it holds: a share of it for each fibre, 2,048 at most.
+    fn over(memory: M) -> Ring<M>
         ensures lists { lists_in result.index (M.cells result.memory) ≡ empty_lists }
         ensures room { result.index.capacity ≡ min (M.share memory) largest }
     {
