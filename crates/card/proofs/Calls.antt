@@ -1,11 +1,13 @@
 -- The calls about the readout, each as a step of the card.
 -- Assumes nothing.
-use Rattle.std.proofs.Common.{◌≡◌, ℕ, Bool, true, false, ltb, List, [], ◌∷◌, Some, None, Ok, Err, Result, sym, refl, ap, ◌∙◌, subst, ap₂, ⊎_elim, arith}
+use Rattle.std.proofs.Common.{◌≡◌, ℕ, Bool, true, false, ltb, List, [], ◌∷◌, Some, None, Ok, Err, Option, Result, sym, refl, ap, ◌∙◌, subst, ap₂, ⊎_elim, arith}
+use Rattle.std.specs.Option.{ok_or}
 use Rattle.std.proofs.lemmas.Bool.{cond-true, cond-false, cases_Bool}
 use Rattle.terms.specs.declared.refusal.Refusal.{Refusal}
 use Rattle.terms.specs.declared.refusal.Refusal.TheVariants.{NoSuchFibre, SlipOut, NothingWaiting, NoSlipOut}
 use Rattle.rules.specs.Rules.{Meaning}
 use Rattle.stores.specs.Store.{level_of, empty_lists, fibre_question}
+use Rattle.stores.proofs.Lists.{impossible}
 use Rattle.card_model.specs.Calls.{Call, ask, give_back, level, reset, was_reset, plain, refused, slip, given_back, level_is}
 use Rattle.card_model.specs.State.{CardState}
 use Rattle.card_model.specs.Clock.{Outcome}
@@ -67,19 +69,35 @@ module _ (meaning : Meaning) (core : Core) (lists : List (List ℕ)) (room : ℕ
   unfolding state_of ask_step
   asks out = cond-false core.slip_out (refusing (state_of core lists room) SlipOut) (ask_waiting core.waiting (state_of core lists room)) out
 
-  pub asked_none : core.slip_out ≡ false → None ≡ first_in core.waiting
+  asked_none : core.slip_out ≡ false → None ≡ first_in core.waiting
       → Stepped meaning (state_of core lists room) ask (state_of core lists room) (plain (refused NothingWaiting))
   asked_none out e =
       stepped meaning (state_of core lists room) ask (refusing (state_of core lists room) NothingWaiting)
       (asks out ∙ ap (λ (q : List (List ℕ)). ask_waiting q (state_of core lists room)) (none_first core.waiting e))
 
-  pub asked_some : (lengths : List ℕ) (n : ℕ) → core.slip_out ≡ false → Some lengths ≡ first_in core.waiting → n ≡ event_length lengths
+  asked_some : (lengths : List ℕ) (n : ℕ) → core.slip_out ≡ false → Some lengths ≡ first_in core.waiting → n ≡ event_length lengths
       → Stepped meaning (state_of core lists room) ask (state_of (with_slip_out core true) lists room) (plain (slip n))
   unfolding state_of
   asked_some lengths n out e long =
       subst (λ (m : ℕ). Stepped meaning (state_of core lists room) ask (state_of (with_slip_out core true) lists room) (plain (slip m))) (sym long)
       (stepped meaning (state_of core lists room) ask (slip_given (state_of core lists room) lengths)
       (asks out ∙ ap (λ (q : List (List ℕ)). ask_waiting q (state_of core lists room)) (some_first core.waiting lengths e).1))
+
+  -- the same, by the question whether an event waits
+  pub asked_refused : (o : Option (List ℕ)) (r : Refusal) → core.slip_out ≡ false → o ≡ first_in core.waiting → Err r ≡ ok_or o NothingWaiting
+      → Stepped meaning (state_of core lists room) ask (state_of core lists room) (plain (refused r))
+  asked_refused None r out is e =
+      let same : NothingWaiting ≡ r = cc in
+      subst (λ (x : Refusal). Stepped meaning (state_of core lists room) ask (state_of core lists room) (plain (refused x))) same (asked_none out is)
+  asked_refused (Some x) r out is e = impossible (cc)
+
+  pub asked_given : (o : Option (List ℕ)) (lengths : List ℕ) (n : ℕ) → core.slip_out ≡ false → o ≡ first_in core.waiting
+      → Ok lengths ≡ ok_or o NothingWaiting → n ≡ event_length lengths
+      → Stepped meaning (state_of core lists room) ask (state_of (with_slip_out core true) lists room) (plain (slip n))
+  asked_given None lengths n out is e long = impossible (cc)
+  asked_given (Some x) lengths n out is e long =
+      let same : lengths ≡ x = cc in
+      asked_some lengths n out (ap Some same ∙ is) long
 
   pub level_told : (f : ℕ) (r : Result ℕ Refusal) → r ≡ fibre_question f (Ok (level_of lists f))
       → Stepped meaning (state_of core lists room) (level f) (state_of core lists room) (said_level r)

@@ -1,16 +1,19 @@
 -- The records of an event, formed in twelve buffers.
 -- Assumes nothing.
-use Rattle.std.proofs.Common.{◌≡◌, ℕ, ◌+◌, ◌<◌, ◌≤◌, List, [], ◌∷◌, length, get_or, set, sym, refl, ap, ◌∙◌, arith}
+use Rattle.std.proofs.Common.{◌≡◌, ℕ, ◌+◌, ◌<◌, ◌≤◌, true, List, [], ◌∷◌, length, get_or, set, Ok, Err, Result, sym, refl, ap, ◌∙◌, arith}
+use Rattle.std.specs.Result.{is_ok}
 use Rattle.std.specs.List.{range_with_len, AllByRecursion}
 use Rattle.std.proofs.lemmas.List.FromFn.{fill_by_all}
 use Rattle.std.proofs.lemmas.List.{length-map}
 use Rattle.std.proofs.lemmas.Simd.{map-map}
+use Rattle.terms.specs.declared.refusal.Refusal.{Refusal}
 use Rattle.rules.specs.Rules.{Meaning}
 use Rattle.settings.specs.declared.card.CardSettings.{CardSettings}
 use Rattle.settings.specs.declared.fibre.FibreSettings.{FibreSettings}
 use Rattle.settings.specs.declared.mode.Mode.{Mode}
 use Rattle.settings.specs.Settings.{of_fibre}
 use Rattle.layout.specs.Event.{TenBits}
+use Rattle.layout.specs.Writing.{Written}
 use Rattle.layout.specs.Lengths.{lengths_in_range, longest_most}
 use Rattle.clusters.proofs.Spacing.{clusters_in_place}
 use Rattle.strips.specs.declared.sample.Sample.{Sample}
@@ -79,7 +82,15 @@ pub long_all : (records : List (List ℕ)) (lengths start : List ℕ) (i : ℕ) 
 unfolding lengths_of
 long_all records lengths start i all long inv = upto_all (λ f. length (record_of records f)) 0 start i lengths all long inv
 
-pub never_too_long : (meaning : Meaning) (f : ℕ) (fibre : FibreSettings) (mode : Mode) (samples : List Sample) (buffer : List ℕ) → Bounded meaning
+never_too_long : (meaning : Meaning) (f : ℕ) (fibre : FibreSettings) (mode : Mode) (samples : List Sample) (buffer : List ℕ) → Bounded meaning
     → f < 12 → length samples ≡ 256 → length buffer ≡ 515 → length buffer < length (fibre_record meaning f fibre mode (numbers samples)) → ⊥
 never_too_long meaning f fibre mode samples buffer bounded below long room short =
     omega (arith, record_short meaning bounded f fibre mode samples below long)
+
+-- a buffer that is long enough for every record takes this one
+pub never_refused : (meaning : Meaning) (f : ℕ) (fibre : FibreSettings) (mode : Mode) (samples : List Sample) (buffer after : List ℕ) (r : Result ℕ Refusal)
+    → Bounded meaning → f < 12 → length samples ≡ 256 → length buffer ≡ 515
+    → Written (fibre_record meaning f fibre mode (numbers samples)) buffer after r → is_ok r ≡ true
+never_refused meaning f fibre mode samples buffer after (Ok n) bounded below long room w = refl
+never_refused meaning f fibre mode samples buffer after (Err e) bounded below long room w =
+    absurd (never_too_long meaning f fibre mode samples buffer bounded below long room w.1)

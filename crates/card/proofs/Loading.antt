@@ -1,12 +1,14 @@
 -- A setting carried out, as a step of the card.
 -- Assumes nothing.
-use Rattle.std.proofs.Common.{◌≡◌, ℕ, ◌<◌, Bool, List, length, get_or, set, Some, None, Ok, Err, Option, Result, sym, refl, ap, ◌∙◌, subst, ap₂}
+use Rattle.std.proofs.Common.{◌≡◌, ℕ, ◌<◌, Bool, true, false, List, length, get_or, set, Some, None, Ok, Err, Option, Result, sym, refl, ap, ◌∙◌, subst, ap₂}
+use Rattle.std.specs.Option.{is_some}
 use Rattle.std.proofs.lemmas.List.{map-set, get_or-map}
 use Rattle.terms.specs.declared.enable.Enable.{Enable}
 use Rattle.terms.specs.declared.fibre.Fibre.{Fibre}
 use Rattle.terms.specs.declared.refusal.Refusal.{Refusal}
 use Rattle.terms.specs.declared.refusal.Refusal.TheVariants.{CaptureRunning}
 use Rattle.rules.specs.Rules.{Meaning}
+use Rattle.stores.proofs.Lists.{impossible}
 use Rattle.settings.specs.declared.card.CardSettings.{CardSettings}
 use Rattle.settings.specs.declared.parts.TickThreshold.{TickThreshold}
 use Rattle.settings.specs.declared.setting.Setting.{Setting}
@@ -25,6 +27,15 @@ use Rattle.card.specs.declared.inner.Core.{Core}
 use Rattle.card.specs.Abstraction.{watch_in, watches_in, rows_in, capture_in, state_of}
 use Rattle.card.specs.Steps.{Stepped}
 use Rattle.card.proofs.Calls.{stepped}
+
+-- what is there, and what is not
+pub some_of : {X : Type 0} (o : Option X) → is_some o ≡ true → (x : X) × (o ≡ Some x)
+some_of None e = impossible (cc)
+some_of (Some x) e = (x, refl)
+
+pub none_of : {X : Type 0} (o : Option X) → is_some o ≡ false → o ≡ None
+none_of None e = refl
+none_of (Some x) e = impossible (cc)
 
 -- the ticker of a fibre, out of the tickers
 pub watch_at : (tickers : List Ticker) (f : ℕ) (d : Ticker) → f < length tickers → watch_of (watches_in tickers) f ≡ watch_in (get_or tickers f d)

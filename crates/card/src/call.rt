@@ -22,13 +22,13 @@ impl Call {
         ensures { result ≡ lent_to self.now }
     {
         match *self {
-            Call::Load(_) => 0,
-            Call::Clock(_) => 0,
-            Call::Ask => 0,
             Call::Fetch(long) => long,
-            Call::GiveBack => 0,
-            Call::Level(_) => 0,
-            Call::Reset => 0,
+            Call::Load(_)
+            | Call::Clock(_)
+            | Call::Ask
+            | Call::GiveBack
+            | Call::Level(_)
+            | Call::Reset => 0,
         }
     }
 }
@@ -46,14 +46,9 @@ fn lent_to_all(calls: &[Call]) -> Option<usize>
 pub(crate) fn lent_enough(calls: &[Call], long: usize) -> Result<(), Refusal>
     ensures { result ≡ bytes_question (lent_in calls.now) long }
 {
-    match lent_to_all(calls) {
-        None => Err(Refusal::BufferTooShort(usize::MAX)),
-        Some(lent) => {
-            if lent > long {
-                Err(Refusal::BufferTooShort(lent))
-            } else {
-                Ok(())
-            }
-        }
+    let lent = lent_to_all(calls).ok_or(Refusal::BufferTooShort(usize::MAX))?;
+    if lent > long {
+        return Err(Refusal::BufferTooShort(lent));
     }
+    Ok(())
 }

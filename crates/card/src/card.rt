@@ -15,6 +15,7 @@ pub(crate) mod new;
 pub(crate) mod reset;
 pub(crate) mod stands;
 
+// Each call says that the rule stays: of the card before and after, so no invariant says it.
 #[derive(Drop)]
 pub struct Card<R: Rule + Drop, S: Store + Drop> {
     rule: R,

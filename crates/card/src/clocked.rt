@@ -27,6 +27,7 @@ pub enum Clocked {
 
 impl Loss {
     // The number by which the card's manual knows the loss.
+    // No From: the number leaves out the fibre, which is named beside it.
     pub fn number(self) -> u8
         ensures { result ≡ loss_number (loss_in self) }
     {

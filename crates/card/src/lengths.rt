@@ -14,5 +14,5 @@ fn total(lengths: &[u16]) -> usize
     requires { length lengths.now ≤ 12 }
     ensures { result ≡ sum lengths.now }
 {
-    lengths.iter().map(|length| *length as usize).sum()
+    lengths.iter().map(|length| usize::from(*length)).sum()
 }

@@ -16,9 +16,6 @@ pub(crate) fn put_records<S: Store>(store: &mut S, records: &[Record; 12])
     ensures room { S.room store.new ≡ S.room store.old }
 {
     for (f, record) in records.iter().enumerate() {
-        match store.put_all(f, record.as_slice()) {
-            Ok(()) => {}
-            Err(_) => unreachable(),
-        }
+        store.put_all(f, record.as_slice()).unwrap();
     }
 }

@@ -13,7 +13,7 @@ use terms::Fibre;
 // The longest record, in bytes.
 const LONGEST: usize = 515;
 
-// Its bytes stand at the front of a buffer.
+// Its bytes stand at the front of a buffer: a card has no heap for a list that grows.
 #[derive(Drop)]
 pub(crate) struct Record {
     buffer: [u8; LONGEST],
@@ -46,21 +46,16 @@ impl Record {
             ≡ fibre_record (R.meaning rule.now) f (of_fibre settings.now f) settings.now.mode
             (numbers row.now.samples) }
     {
-        let fibre = match Fibre::new(f) {
-            Ok(fibre) => fibre,
-            Err(_) => unreachable(),
-        };
-        match write_fibre(
+        let length = write_fibre(
             rule,
-            fibre,
+            Fibre::new(f).unwrap(),
             &settings.fibres[f],
             settings.mode,
             &row.samples,
             &mut self.buffer,
-        ) {
-            Ok(length) => self.length = length as u16,
-            Err(_) => unreachable(),
-        }
+        )
+        .unwrap();
+        self.length = length as u16;
     }
 
     pub(crate) fn len(&self) -> u16
@@ -72,6 +67,6 @@ impl Record {
     pub(crate) fn as_slice(&self) -> &[u8]
         ensures { result.now ≡ self.now }
     {
-        &self.buffer[0..self.length as usize]
+        &self.buffer[0..usize::from(self.length)]
     }
 }

@@ -7,13 +7,11 @@ use terms::{FIBRES, Refusal};
 
 // The least sample.
 pub(crate) fn zero() -> Sample {
-    match Sample::new(0) {
-        Some(sample) => sample,
-        None => unreachable(),
-    }
+    Sample::new(0).unwrap()
 }
 
 // Are all up to 1023? 7, with the lowest fibre whose sample is not.
+// A loop: of try_from_fn's Err a proof does not know that its fibre is the lowest.
 pub(crate) fn read_samples(samples: &[u16; 12]) -> Result<[Sample; 12], Refusal>
     ensures read { IfOk result (IsReadAs samples.now) }
     ensures large { IfErr result (IsTooLarge samples.now) }

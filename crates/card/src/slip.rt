@@ -6,6 +6,7 @@ use terms::Refusal;
 // A slip that is not spent cannot be let go.
 pub struct Slip {
     pub(crate) length: usize,
+    // A flag, which its drop asks for: two kinds of slips would be told apart there as well.
     pub(crate) spent: bool,
 }
 

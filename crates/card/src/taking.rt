@@ -33,7 +33,7 @@ pub(crate) fn take_event<S: Store>(store: &mut S, lengths: &[u16; 12], out: &mut
 {
     let mut at = 0;
     for (f, length) in lengths.iter().enumerate() {
-        let end = at + *length as usize;
+        let end = at + usize::from(*length);
         take_record(store, f, &mut out[at..end]);
         at = end;
     }

@@ -22,12 +22,8 @@ impl<R: Rule + Drop, S: Store + Drop> Card<R, S> {
         if self.core.slip_out {
             return Err(Refusal::SlipOut);
         }
-        match self.core.waiting.front() {
-            None => Err(Refusal::NothingWaiting),
-            Some(lengths) => {
-                self.core.slip_out = true;
-                Ok(Slip::new(event_length(&lengths)))
-            }
-        }
+        let lengths = self.core.waiting.front().ok_or(Refusal::NothingWaiting)?;
+        self.core.slip_out = true;
+        Ok(Slip::new(event_length(&lengths)))
     }
 }

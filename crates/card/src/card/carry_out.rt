@@ -13,6 +13,7 @@ use terms::Refusal;
 
 impl<R: Rule + Drop, S: Store + Drop> Card<R, S> {
     // Carries out a Fetch into a part of the bytes, with a slip of its own.
+    // All bytes and a place, here and below, and no slice from there on: the answer names the place.
     fn answer_fetch(&mut self, long: usize, bytes: &mut [u8], at: usize) -> Result<Answer, Refusal>
         requires { at + long ≤ length bytes.old }
         ensures step { CallAnswered R.meaning self.old (Call.Fetch long) at bytes.old
@@ -48,10 +49,11 @@ impl<R: Rule + Drop, S: Store + Drop> Card<R, S> {
                 Ok(Answer::Slip(length))
             }
             Call::Fetch(long) => self.answer_fetch(long, bytes, at),
-            Call::GiveBack => match self.give_back(Slip::new(0)) {
-                Ok(()) => Ok(Answer::GivenBack),
-                Err(refused) => Err(refused.spend()),
-            },
+            Call::GiveBack => {
+                self.give_back(Slip::new(0))
+                    .map_err(|refused| refused.spend())?;
+                Ok(Answer::GivenBack)
+            }
             Call::Level(fibre) => {
                 let level = self.level(fibre)?;
                 Ok(Answer::Level(level))
@@ -66,6 +68,7 @@ impl<R: Rule + Drop, S: Store + Drop> Card<R, S> {
     // Carries out a list of calls, and writes what each is answered into a lent row: is it long enough? 11, with
     // the number of calls. Each Fetch is lent as many of the bytes as its buffer is long, one behind the other: are
     // there so many? 11, with their number. A refusal changes nothing.
+    // The row is lent, and filled from the front: a card has no heap to make one in.
     pub fn carry_out(
         &mut self,
         calls: &[Call],
@@ -88,6 +91,7 @@ impl<R: Rule + Drop, S: Store + Drop> Card<R, S> {
         // Calls and answers by one index: a zip tells the proof nothing of what is written through its pairs.
         for (i, call) in calls.iter().enumerate() {
             answers[i] = self.answer(*call, bytes, at);
+            // A place kept by hand: the answer names it, and a slice of what is left would not.
             at += call.lent();
         }
         Ok(())

@@ -19,10 +19,7 @@ use terms::Refusal;
 fn oldest(waiting: &Waiting) -> [u16; 12]
     ensures { LengthsOf waiting.now result }
 {
-    match waiting.front() {
-        Some(lengths) => lengths,
-        None => [0; 12],
-    }
+    waiting.front().unwrap_or([0; 12])
 }
 
 impl<R: Rule + Drop, S: Store + Drop> Card<R, S> {

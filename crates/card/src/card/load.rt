@@ -17,7 +17,7 @@ impl<R: Rule + Drop, S: Store + Drop> Card<R, S> {
         ensures rule { self.new.rule ≡ self.old.rule }
         ensures laws { CallKeepsLaws R.meaning self.old (the_load word) }
     {
-        if let Some(_) = self.core.capture {
+        if self.core.capture.is_some() {
             return Err(Refusal::CaptureRunning);
         }
         let setting = Setting::try_from(word)?;

@@ -20,7 +20,7 @@ impl Core {
             return Some(Loss::TooMany);
         }
         for (f, length) in lengths.iter().enumerate() {
-            if *length as usize > free_room(store, f) {
+            if usize::from(*length) > free_room(store, f) {
                 return Some(Loss::NoRoom(f));
             }
         }
@@ -34,8 +34,5 @@ fn free_room<S: Store>(store: &S, f: usize) -> usize
     requires { f < 12 }
     ensures { result ≡ S.room store.now - level_of (S.lists store.now) f }
 {
-    match store.level(f) {
-        Ok(level) => store.capacity() - level,
-        Err(_) => unreachable(),
-    }
+    store.capacity() - store.level(f).unwrap()
 }

@@ -1,14 +1,15 @@
-use Rattle.std.proofs.Common.{arith}
-use Rattle.stores.proofs.Lists.{not_granted}
+use Rattle.std.proofs.Common.{ap, ◌∙◌, arith}
+use Rattle.std.specs.Result.{is_ok}
 use Rattle.card.proofs.Fibres.{upto_all}
 use Rattle.card.proofs.Losing.{put_by, put_goes}
 use Rattle.card.proofs.putting.put_records.Goals as goal
 
-pub unreachable-requires : goal.unreachable-requires
-unreachable-requires g c =
+pub unwrap-requires : goal.unwrap-requires
+unwrap-requires g c =
     let s = g.S.Store in
-    not_granted c.in-Err.field-0 _ c.in-Err.ensures.answer
-    (put_goes (s.lists c.args.store.now) c.args.records.now (s.room c.loop-f.store) (s.lists c.loop-f.store) c.loop-f.f _ _
+    ap is_ok
+    (c.put_all.ensures.answer
+    ∙ put_goes (s.lists c.args.store.now) c.args.records.now (s.room c.loop-f.store) (s.lists c.loop-f.store) c.loop-f.f _ _
     (omega arith) (omega arith) (λ f h. omega (arith, c.requires f h, c.loop-f.invariant.0)) c.loop-f.invariant.1 c.as_slice.ensures)
 
 pub returns-clause-lists : goal.returns-clause-lists

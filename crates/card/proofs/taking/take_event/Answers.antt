@@ -21,13 +21,14 @@ loop-f-preserved g c =
     let lists = s.lists c.args.store.now in
     let f = c.loop-f.f in
     let at = c.loop-f.at in
-    let n = get_or lengths f 0 in
+    let n = c.from.result in
+    let same : n ≡ get_or lengths f 0 = c.from.ensures in
     let more = before_more lengths f in
     let within = before_le lengths (f + 1) (omega arith) in
     let inside : f < length lists = omega (arith, (g.met.S.Store.sound c.args.store.now).twelve) in
     let fits : at + n ≤ length c.loop-f.out = omega arith in
-    let count : at + n - at ≡ n = omega arith in
-    let long = length_part c.loop-f.out at n fits in
+    let count : at + n - at ≡ get_or lengths f 0 = omega arith in
+    let long = length_part c.loop-f.out at n fits ∙ same in
     let record-taken = record_step lengths lists f inside _ _ _ c.loop-f.invariant.1 long c.take_record.ensures.out in (
       omega arith,
       lists_step lengths lists f inside _ _ _ c.loop-f.invariant.1 long c.take_record.ensures.lists,

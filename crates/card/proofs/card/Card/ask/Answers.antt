@@ -1,5 +1,6 @@
 use Rattle.std.proofs.Common.{◌∙◌}
-use Rattle.card.proofs.Calls.{asked_out, asked_none, asked_some}
+use Rattle.std.proofs.lemmas.Result.{err_from_is_err_and}
+use Rattle.card.proofs.Calls.{asked_out, asked_refused, asked_given}
 use Rattle.card.proofs.CardLaws.{keeps_laws}
 use Rattle.card.proofs.card.Card.ask.Goals as goal
 
@@ -9,15 +10,19 @@ returns-then-self-clause-step g c = rw (← c.self.view_is) (asked_out _ _ _ _ c
 pub returns-then-self-clause-laws : goal.returns-then-self-clause-laws
 returns-then-self-clause-laws g c = keeps_laws g.met.R.Rule.bounded g.S.Store g.met.S.Store.sound _ _ c.self.view_is _
 
-pub returns-in-None-clause-step : goal.returns-in-None-clause-step
-returns-in-None-clause-step g c = rw (← c.self.view_is) (asked_none _ _ _ _ c.if-self.false c.in-None.ensures)
+pub returns-in_err-lengths-clause-step : goal.returns-in_err-lengths-clause-step
+returns-in_err-lengths-clause-step g c =
+    let p = err_from_is_err_and c.from_residual.result c.from_residual.ensures.1 in
+    rw (← c.self.view_is, p.1, p.2) (asked_refused _ _ _ _ c.front.result _ c.if-self.false c.front.ensures c.in_err-lengths.ensures.value)
 
-pub returns-in-None-clause-laws : goal.returns-in-None-clause-laws
-returns-in-None-clause-laws g c = keeps_laws g.met.R.Rule.bounded g.S.Store g.met.S.Store.sound _ _ c.self.view_is _
+pub returns-in_err-lengths-clause-laws : goal.returns-in_err-lengths-clause-laws
+returns-in_err-lengths-clause-laws g c = keeps_laws g.met.R.Rule.bounded g.S.Store g.met.S.Store.sound _ _ c.self.view_is _
 
-pub returns-in-Some-clause-step : goal.returns-in-Some-clause-step
-returns-in-Some-clause-step g c =
-    rw (← c.self.view_is) (asked_some _ _ _ _ _ _ c.if-self.false c.in-Some.ensures (c.new.ensures.length ∙ c.event_length.ensures))
+pub returns-clause-step : goal.returns-clause-step
+returns-clause-step g c =
+    rw (← c.self.view_is)
+    (asked_given _ _ _ _ c.front.result _ _ c.if-self.false c.front.ensures c.in_ok-lengths.ensures.value
+    (c.new.ensures.length ∙ c.event_length.ensures))
 
-pub returns-in-Some-clause-laws : goal.returns-in-Some-clause-laws
-returns-in-Some-clause-laws g c = keeps_laws g.met.R.Rule.bounded g.S.Store g.met.S.Store.sound _ _ c.self.view_is _
+pub returns-clause-laws : goal.returns-clause-laws
+returns-clause-laws g c = keeps_laws g.met.R.Rule.bounded g.S.Store g.met.S.Store.sound _ _ c.self.view_is _
