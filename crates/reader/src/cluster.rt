@@ -49,10 +49,8 @@ fn read_cluster<'a>(left: Part<'a>, before: Option<Run>) -> Result<Cluster<'a>, 
     if data.len() < strips {
         return Err(ClusterFault::DataOutside(left.at));
     }
-    if let Some(before) = before {
-        if !run.lies_behind(before) {
-            return Err(ClusterFault::OutOfOrder(left.at));
-        }
+    if before.is_some_and(|before| !run.lies_behind(before)) {
+        return Err(ClusterFault::OutOfOrder(left.at));
     }
     Ok(Cluster {
         address: run.address,

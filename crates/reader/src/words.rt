@@ -14,7 +14,7 @@ use terms::LARGEST;
 pub(crate) fn number_in(lo: u8, hi: u8) -> u16
     ensures { result ≡ number_in lo hi }
 {
-    u16::from(lo) + 256 * u16::from(hi)
+    u16::from_le_bytes([lo, hi])
 }
 
 // The words in some bytes, two bytes each.
