@@ -86,6 +86,7 @@ pub(crate) fn read_clusters(body: Part) -> Result<(), ClusterFault>
         left: body,
         before: None,
     };
+    // A `while`: an iterator of results would have to remember that it has met a fault.
     while !clusters.left.bytes.is_empty() {
         clusters.read_next()?;
     }
