@@ -52,6 +52,7 @@ fn print_cluster<O: Write>(out: &mut O, cluster: Cluster<'_>) -> io::Result<()> 
 }
 
 fn print_words<O: Write>(out: &mut O, mut words: Words<'_>) -> io::Result<()> {
+    // By number: a row begins with the index of its first word.
     for row in 0..ROWS {
         let first = row * WORDS_IN_ROW;
         write!(out, "  {first:>3}:")?;

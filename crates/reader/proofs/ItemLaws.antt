@@ -3,13 +3,12 @@
 use Rattle.std.proofs.Common.{◌≡◌, ℕ, zero, suc, ◌+◌, ◌*◌, ◌<◌, ◌≤◌, Bool, true, false, leb, ltb, Some, None, Ok, Err, Option, Result, List, [], ◌∷◌, ◌++◌, length, get_or, take, drop, sym, refl, ap, ◌∙◌, subst, ap₂, arith, length-append}
 use Rattle.std.proofs.lemmas.Bool.{le-leb, leb-true, leb-false, lt-ltb, le-ltb, cond-true, cond-false, cond_both}
 use Rattle.std.proofs.lemmas.List.{take_at, drop_at}
-use Rattle.std.proofs.lemmas.Option.{slice_get_past}
 use Rattle.std.specs.List.{flat_map, position_from, slice_get}
 use Rattle.std.specs.Option.{option_map, ok_or}
 use Rattle.terms.specs.declared.refusal.Refusal.TheVariants.{NoSuchCluster}
 use Rattle.layout.specs.Event.{Cluster, cluster_bytes, word, Content, suppressed, words}
 use Rattle.reader.specs.declared.cluster.Cluster as parts
-use Rattle.reader.specs.Asked.{clusters_of, present, cluster_of}
+use Rattle.reader.specs.Asked.{clusters_of, present, cluster_of, words_of, word_of}
 use Rattle.reader.specs.Parts.{cluster_value}
 use Rattle.reader.proofs.Asks.{some_same, none_some, ok_err, ok_same}
 use Rattle.reader.specs.Items.{words_in, clusters_from, clusters_in}
@@ -103,18 +102,11 @@ words_verdict at n (lo ∷ hi ∷ xs) = go (leb (number_in lo hi) 1023) refl (wo
 pub read_all : (at : ℕ) (xs : List ℕ) → word_fault at (position_from too_large 0 (words_in xs)) ≡ verdict (read_words at xs)
 read_all at xs = let e : at + 2 * 0 ≡ at = omega arith in words_verdict at 0 xs ∙ ap (λ i. verdict (read_words i xs)) e
 
-pub word_at : (xs : List ℕ) (i : ℕ) → 2 * i + 1 < length xs → slice_get (words_in xs) i ≡ Some (number_in (get_or xs (2 * i) 0) (get_or xs (2 * i + 1) 0))
-word_at [] i h = absurd (omega arith)
-word_at (x ∷ []) i h = absurd (omega arith)
-word_at (lo ∷ hi ∷ xs) zero h = refl
-word_at (lo ∷ hi ∷ xs) (suc i) h =
-    let low : suc (suc (2 * i)) ≡ 2 * suc i = omega arith in
-    let high : suc (suc (2 * i + 1)) ≡ 2 * suc i + 1 = omega arith in
-    word_at xs i (omega arith) ∙ ap₂ (λ a b. Some (number_in (get_or (lo ∷ hi ∷ xs) a 0) (get_or (lo ∷ hi ∷ xs) b 0))) low high
-
--- no word stands past the bytes
-pub word_past : (xs : List ℕ) (i : ℕ) → length xs ≤ 2 * i + 1 → slice_get (words_in xs) i ≡ None
-word_past xs i h = let few = words_few xs in slice_get_past (words_in xs) i (omega arith)
+-- the word of an index, where the record has words
+pub word_there : (c : Content) (left : List ℕ) (o : Option ℕ) (i : ℕ) → Some left ≡ words_of c → option_map (λ w. w) o ≡ slice_get left i → o ≡ word_of c i
+word_there (suppressed m cs) left o i h n = absurd (none_some left (sym h))
+word_there (words ws) left None i h n = n ∙ ap (λ l. slice_get l i) (some_same left ws h)
+word_there (words ws) left (Some w) i h n = n ∙ ap (λ l. slice_get l i) (some_same left ws h)
 
 pub ok_or_some : {A E : Type 0} (o : Option A) (e : E) (x : A) → Ok x ≡ ok_or o e → o ≡ Some x
 ok_or_some None e x h = absurd (ok_err e x h)

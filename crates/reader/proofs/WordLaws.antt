@@ -1,11 +1,13 @@
 -- Numbers in two bytes: what is written is read back, and what was read is what would be written.
 -- Assumes nothing.
-use Rattle.std.proofs.Common.{◌≡◌, ℕ, suc, ◌+◌, ◌*◌, ◌/◌, ◌%◌, ◌<◌, ◌≤◌, leb, List, [], ◌∷◌, ◌++◌, length, Ok, refl, ap, ◌∙◌, subst, ap₂, arith}
+use Rattle.std.proofs.Common.{◌≡◌, ℕ, suc, ◌+◌, ◌*◌, ◌/◌, ◌%◌, ◌<◌, ◌≤◌, leb, Bool, true, false, List, [], ◌∷◌, ◌++◌, length, take, drop, None, Ok, Err, Result, refl, ap, ◌∙◌, subst, ap₂, arith}
 use Rattle.std.proofs.lemmas.Bool.{leb-true, le-leb}
 use Rattle.std.specs.List.{flat_map, AllByRecursion}
-use Rattle.layout.specs.Event.{Byte, TenBits, word}
+use Rattle.layout.specs.Event.{Byte, Cluster, TenBits, suppressed, word}
+use Rattle.faults.specs.declared.fault.ClusterFault.{ClusterFault}
+use Rattle.faults.specs.declared.fault.RecordFault.{RecordFault}
 use Rattle.faults.specs.declared.fault.RecordFault.TheVariants as records
-use Rattle.reader.specs.Questions.{ok_map, number_in, read_words}
+use Rattle.reader.specs.Questions.{ok_map, err_map, verdict, and_then, ask, number_in, read_words, read_clusters, read_suppressed}
 use Rattle.reader.proofs.Asks.{ok_same, ask_ok, ask_yes, ok_map_ok}
 
 -- two bytes are the word of the number in them
@@ -54,3 +56,29 @@ words_complete at (w ∷ ws) h =
     let small : n ≤ 1023 = omega (arith, h.0) in
     ask_yes (leb n 1023) (records.TooLarge at) _ (w ∷ ws) (le-leb n 1023 small)
     (ap (ok_map (λ (vs : List ℕ). n ∷ vs)) (words_complete (at + 2) ws h.1) ∙ ap (λ (k : ℕ). Ok (k ∷ ws)) same)
+
+-- the first four bytes of a zero-suppressed content are two words, its common modes; the clusters lie behind
+pub suppressed_asked :
+    (at : ℕ) (xs : List ℕ) (modes : Result (Unit {0}) RecordFault) (body : Result (Unit {0}) ClusterFault) →
+    4 ≤ length xs →
+    modes ≡ verdict (read_words at (take 4 xs)) →
+    body ≡ verdict (read_clusters 0 None (at + 4) (drop 4 xs)) →
+    and_then modes (λ _. err_map records.Cluster body) ≡ verdict (read_suppressed at xs)
+suppressed_asked at [] modes body long m b = absurd (omega arith)
+suppressed_asked at (x ∷ []) modes body long m b = absurd (omega arith)
+suppressed_asked at (x ∷ y ∷ []) modes body long m b = absurd (omega arith)
+suppressed_asked at (x ∷ y ∷ z ∷ []) modes body long m b = absurd (omega arith)
+suppressed_asked at (lo ∷ hi ∷ lo₁ ∷ hi₁ ∷ xs) modes body long m b =
+    ap₂ (λ q r. and_then q (λ _. err_map records.Cluster r)) m b
+    ∙ go (leb (number_in lo hi) 1023) (leb (number_in lo₁ hi₁) 1023) (read_clusters 0 None (at + 4) xs)
+  where
+    go :
+        (left right : Bool) (r : Result (List Cluster) ClusterFault) →
+        and_then
+        (verdict (ask left (records.TooLarge at) (ok_map (λ ws. number_in lo hi ∷ ws) (ask right (records.TooLarge (at + 2)) (ok_map (λ ws. number_in lo₁ hi₁ ∷ ws) (Ok []))))))
+        (λ _. err_map records.Cluster (verdict r))
+        ≡ verdict (ask left (records.TooLarge at) (ask right (records.TooLarge (at + 2)) (err_map records.Cluster (ok_map (suppressed (record { left = number_in lo hi; right = number_in lo₁ hi₁ })) r))))
+    go true true (Ok cs) = refl
+    go true true (Err e) = refl
+    go true false r = refl
+    go false right r = refl

@@ -49,10 +49,8 @@ fn read_cluster<'a>(left: Part<'a>, before: Option<Run>) -> Result<Cluster<'a>, 
     if data.len() < strips {
         return Err(ClusterFault::DataOutside(left.at));
     }
-    if let Some(before) = before {
-        if !run.lies_behind(before) {
-            return Err(ClusterFault::OutOfOrder(left.at));
-        }
+    if before.is_some_and(|before| !run.lies_behind(before)) {
+        return Err(ClusterFault::OutOfOrder(left.at));
     }
     Ok(Cluster {
         address: run.address,
@@ -88,6 +86,7 @@ pub(crate) fn read_clusters(body: Part) -> Result<(), ClusterFault>
         left: body,
         before: None,
     };
+    // A `while`: an iterator of results would have to remember that it has met a fault.
     while !clusters.left.bytes.is_empty() {
         clusters.read_next()?;
     }

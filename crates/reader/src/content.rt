@@ -6,25 +6,19 @@ ghost use Rattle.reader.specs.Walks.{content_asked};
 
 use crate::cluster::read_clusters;
 use crate::part::Part;
-use crate::words::{number_in, read_words};
+use crate::words::read_words;
 use faults::RecordFault;
 use layout::{Kind, ProcessedRaw, RecordKind, VirginRaw, ZeroSuppressed};
-use terms::LARGEST;
 
 // Both common modes, then the clusters.
 fn read_suppressed(content: Part) -> Result<(), RecordFault>
     requires { 4 ≤ length content.bytes.now }
     ensures { result ≡ verdict (read_suppressed content.entry.at content.entry.bytes.now) }
 {
-    let [left_lo, left_hi, right_lo, right_hi, ..] = content.bytes else {
-        unreachable()
-    };
-    if number_in(*left_lo, *left_hi) > LARGEST {
-        return Err(RecordFault::TooLarge(content.at));
-    }
-    if number_in(*right_lo, *right_hi) > LARGEST {
-        return Err(RecordFault::TooLarge(content.at + 2));
-    }
+    read_words(Part {
+        bytes: &content.bytes[0..4],
+        at: content.at,
+    })?;
     read_clusters(content.behind(4))?;
     Ok(())
 }
@@ -50,7 +44,8 @@ impl ReadKind for ZeroSuppressed {
     }
 }
 
-// The two kinds of raw record differ in their constants alone: each kind brings its own, a rule of the project.
+// The two kinds of raw record differ in their constants alone: each kind brings its own, a rule of
+// the project.
 impl ReadKind for ProcessedRaw {
     fn kind_of_record() -> Kind {
         Kind::ProcessedRaw

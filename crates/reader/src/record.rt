@@ -11,6 +11,7 @@ pub mod questions;
 pub(crate) mod reading;
 pub(crate) mod splitting;
 
+// Kind and bytes: an enum of contents would say the kind a second time.
 #[derive(Clone, Copy)]
 pub struct Record<'a> {
     kind: Kind,

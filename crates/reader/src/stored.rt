@@ -23,6 +23,7 @@ pub fn survey_run(run: &[u8]) -> Survey
         fault: None,
     };
     let mut left = run;
+    // A `while`: an iterator would end alike at the end and at a fault, and the fault is answered.
     while !left.is_empty() {
         match read_first(left) {
             Ok((event, rest)) => {

@@ -1,7 +1,6 @@
 // Reads the ten-bit words of a record.
 ghost use Rattle.std.specs.Prelude.{◌≡◌, ℕ, List};
 ghost use Rattle.std.specs.Iterator.{YieldsFirst, item_count};
-ghost use Rattle.std.specs.List.{slice_get};
 ghost use Rattle.reader.specs.Items.{words_in};
 ghost use Rattle.reader.specs.Parts.{words_left};
 ghost use Rattle.reader.specs.Questions.{verdict, number_in, read_words};
@@ -14,7 +13,7 @@ use terms::LARGEST;
 pub(crate) fn number_in(lo: u8, hi: u8) -> u16
     ensures { result ≡ number_in lo hi }
 {
-    u16::from(lo) + 256 * u16::from(hi)
+    u16::from_le_bytes([lo, hi])
 }
 
 // The words in some bytes, two bytes each.
@@ -55,14 +54,4 @@ pub(crate) fn read_words(content: Part) -> Result<(), RecordFault>
         Some(index) => Err(RecordFault::TooLarge(content.at + 2 * index)),
         None => Ok(()),
     }
-}
-
-// The word of an index among words one after the other.
-pub(crate) fn nth_word(content: &[u8], index: usize) -> Option<u16>
-    ensures { result ≡ slice_get (words_in content.now) index }
-{
-    if index >= content.len() / 2 {
-        return None;
-    }
-    Some(number_in(content[2 * index], content[2 * index + 1]))
 }

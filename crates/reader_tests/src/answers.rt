@@ -5,7 +5,7 @@ use reader::read_event;
 use std::test::Fail;
 use terms::{Pair, Refusal};
 
-// The number of a refusal, if it is one.
+// The number of a refusal, if it is one: the numbers of the manual are what is tested.
 fn refusal<T: Drop>(answer: Result<T, Refusal>) -> Option<u8> {
     answer.err().map(|refusal| refusal.number())
 }

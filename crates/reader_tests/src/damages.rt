@@ -5,7 +5,7 @@ use reader::read_event;
 use std::process::Abort;
 use std::test::Fail;
 
-// The number, layer and offset of a fault.
+// The number, layer and offset of a fault: those of the manual are what is tested.
 type Found = (u8, Layer, usize);
 
 // What is wrong with an input; None where it is an event.
@@ -99,6 +99,7 @@ fn raw_event_damaged(rt: HostRuntime) -> Result<(), Fail> {
 // outside the input.
 fn check_cuts(rt: &impl Abort, event: &[u8], starts: &[usize]) {
     let mut start = 0;
+    // By number: the cut is what is tested.
     for cut in 0..event.len() {
         if starts.contains(&cut) {
             start = cut;

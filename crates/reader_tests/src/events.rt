@@ -11,6 +11,7 @@ pub(crate) fn push_suppressed(event: &mut Vec<u8>) -> Result<(), Fail> {
     // Strips 0, 3, 126 and 127, 128: as near to each other as they may be.
     event.extend_from_slice(&[20, 0, 0xEA, 1, 0, 2, 0])?;
     event.extend_from_slice(&[0, 1, 9, 3, 1, 255, 126, 2, 7, 8, 128, 1, 42])?;
+    // By number: the fibre is the common mode.
     for fibre in 3..11u8 {
         event.extend_from_slice(&[7, 0, 0xEA, fibre, 0, 0, 0])?;
     }
@@ -24,6 +25,7 @@ pub const SUPPRESSED_STARTS: [usize; 12] = [0, 11, 18, 38, 45, 52, 59, 66, 73, 8
 
 // Appends a raw event of 6180 bytes with a packet code: word i of fibre f is i + 256 (f mod 4), up to 1023.
 pub(crate) fn push_raw(event: &mut Vec<u8>, code: u8) -> Result<(), Fail> {
+    // By number: fibre and index make the word.
     for fibre in 0..12u8 {
         event.extend_from_slice(&[3, 2, code])?;
         for low in 0..=255u8 {

@@ -1,5 +1,5 @@
 // Reads an event.
-ghost use Rattle.std.specs.Prelude.{◌≡◌, ℕ, ◌+◌, ◌^◌, ◌<◌, ◌≤◌, ◌++◌, length, None, MatchResult, OnOk, IfOk, IfErr, slice_index};
+ghost use Rattle.std.specs.Prelude.{◌≡◌, None, MatchResult, OnOk, IfOk, IfErr, slice_index};
 ghost use Rattle.std.specs.List.{AllByRecursion};
 ghost use Rattle.layout.specs.Event.{Byte, code};
 ghost use Rattle.reader.specs.Parts.{Accepted, Rejected, AcceptedFront, RejectedFront};
@@ -55,6 +55,7 @@ fn read_records(input: &[u8]) -> Result<(Kind, usize), EventFault>
     };
     let mut records = RecordReader { left };
     let kind = records.read_next(None)?;
+    // By number: twelve are asked for, whatever is left, and the first fault ends the walk.
     for _fibre in 1..FIBRES {
         records.read_next(Some(kind))?;
     }

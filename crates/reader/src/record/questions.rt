@@ -8,7 +8,7 @@ ghost use Rattle.reader.specs.Questions.{ok_map};
 
 use crate::cluster::{Cluster, Clusters};
 use crate::record::Record;
-use crate::words::{Words, nth_word, number_in};
+use crate::words::{Words, number_in};
 use layout::Kind;
 use terms::{Pair, Refusal};
 
@@ -53,6 +53,7 @@ impl<'a> Record<'a> {
     pub fn cluster_count(&self) -> Option<usize>
         ensures { result ≡ count_of (content_of self.now) }
     {
+        // No `map`: tried, and the proof did not close; the closure keeps what `count` says to itself.
         let clusters = self.clusters()?;
         Some(clusters.count())
     }
@@ -79,9 +80,6 @@ impl<'a> Record<'a> {
     pub fn word(&self, index: usize) -> Option<u16>
         ensures { result ≡ word_of (content_of self.now) index }
     {
-        match self.kind {
-            Kind::ZeroSuppressed => None,
-            Kind::ProcessedRaw | Kind::VirginRaw => nth_word(self.content, index),
-        }
+        self.words()?.nth(index)
     }
 }

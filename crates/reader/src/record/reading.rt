@@ -38,10 +38,8 @@ pub(crate) fn read_record(first: Option<Kind>, header: Header) -> Result<Kind, R
     let Ok(kind) = Kind::try_from(header.code) else {
         return Err(RecordFault::UnknownCode(header.at + 2));
     };
-    if let Some(first) = first {
-        if first != kind {
-            return Err(RecordFault::OtherKind(header.at + 2));
-        }
+    if first.is_some_and(|first| first != kind) {
+        return Err(RecordFault::OtherKind(header.at + 2));
     }
     match kind {
         Kind::ZeroSuppressed => read_body::<ZeroSuppressed>(header)?,
