@@ -49,6 +49,7 @@ impl<T: Drop> From<AllocFailed<T>> for Unread {
 
 // A number of sixteen bits.
 fn read_short(word: &[u8]) -> Option<u16> {
+    // By `as`, here and below: it is proved to lose no bit, so TryFrom's error could not come.
     Some(read_number(word, LARGEST_SHORT)? as u16)
 }
 
