@@ -41,6 +41,7 @@ fn read_digits(word: &[u8], base: u32, limit: u32) -> Option<u32>
         if longer > u64::from(limit) {
             return None;
         }
+        // By `as`, here and below: it is proved to lose no bit, so TryFrom's error could not come.
         number = longer as u32;
     }
     Some(number)

@@ -49,12 +49,14 @@ impl<T: Drop> From<AllocFailed<T>> for Unread {
 
 // A number of sixteen bits.
 fn read_short(word: &[u8]) -> Option<u16> {
+    // By `as`, here and below: it is proved to lose no bit, so TryFrom's error could not come.
     Some(read_number(word, LARGEST_SHORT)? as u16)
 }
 
-// The words of a line that are still to be read.
+// The words of a line that are still to be read, and the heap for what they say.
 #[derive(Drop)]
 struct Words<'a> {
+    heap: Global,
     left: &'a [u8],
 }
 
@@ -145,118 +147,118 @@ impl<'a> Words<'a> {
     }
 
     // Values up to the end of the line, or as many as an estimate takes.
-    fn values(&mut self, heap: Global) -> Result<Values, Unread> {
-        let mut list = Vec::new(heap);
+    fn values(&mut self) -> Result<Values, Unread> {
+        let mut list = Vec::new(self.heap);
         for word in self.take(MOST_VALUES) {
             list.push(read_short(word).ok_or(Unread::BadLine)?)?;
         }
         Ok(Values { list })
     }
-}
 
-// A new card, with a store and a rule of its own.
-fn card(words: &mut Words<'_>) -> Result<Command, Unread> {
-    let memory = words.memory()?;
-    Ok(Command::Card(memory, words.rule()?))
-}
+    // A new card, with a store and a rule of its own.
+    fn card(&mut self) -> Result<Command, Unread> {
+        let memory = self.memory()?;
+        Ok(Command::Card(memory, self.rule()?))
+    }
 
-// An estimate, with the values up to the end of the line.
-fn estimate(heap: Global, words: &mut Words<'_>) -> Result<Command, Unread> {
-    let chip = words.index()?;
-    let setting = words.number(LARGEST_SETTING)? as u8;
-    let values = words.values(heap)?;
-    Ok(Command::Estimate {
-        chip,
-        setting,
-        values,
-    })
-}
+    // An estimate, with the values up to the end of the line.
+    fn estimate(&mut self) -> Result<Command, Unread> {
+        let chip = self.index()?;
+        let setting = self.number(LARGEST_SETTING)? as u8;
+        let values = self.values()?;
+        Ok(Command::Estimate {
+            chip,
+            setting,
+            values,
+        })
+    }
 
-// The bytes of an event, or the word that stands for those that were fetched last.
-fn unpack(heap: Global, word: &str) -> Result<Command, Unread> {
-    match word {
-        "last" => Ok(Command::UnpackLast),
-        "-" => Ok(Command::Unpack(Vec::new(heap))),
-        digits => {
-            if digits.len() > MOST_DIGITS {
-                return Err(Unread::BadLine);
+    // The bytes of an event, or the word that stands for those that were fetched last.
+    fn unpack(&mut self) -> Result<Command, Unread> {
+        match self.name()? {
+            "last" => Ok(Command::UnpackLast),
+            "-" => Ok(Command::Unpack(Vec::new(self.heap))),
+            digits => {
+                if digits.len() > MOST_DIGITS {
+                    return Err(Unread::BadLine);
+                }
+                let bytes = read_bytes(self.heap, digits.as_bytes())?.ok_or(Unread::BadLine)?;
+                Ok(Command::Unpack(bytes))
             }
-            let bytes = read_bytes(heap, digits.as_bytes())?.ok_or(Unread::BadLine)?;
-            Ok(Command::Unpack(bytes))
         }
     }
-}
 
-// The cluster of an index in the record of a fibre.
-fn cluster(words: &mut Words<'_>) -> Result<EventQuestion, Unread> {
-    let fibre = words.index()?;
-    let index = words.index()?;
-    Ok(EventQuestion::Cluster { fibre, index })
-}
-
-// The command of a name, with the words behind it that it takes.
-fn command(heap: Global, name: &str, words: &mut Words<'_>) -> Result<Command, Unread> {
-    match name {
-        "card" => card(words),
-        "swap" => Ok(Command::Swap),
-        "store" => Ok(Command::Store(words.memory()?)),
-        "rule" => Ok(Command::Rule(words.rule()?)),
-        "estimate" => estimate(heap, words),
-        "unpack" => unpack(heap, words.name()?),
-        "record" => Ok(Command::OfEvent(EventQuestion::Record(words.index()?))),
-        "cluster" => Ok(Command::OfEvent(cluster(words)?)),
-        _ => call(name, words),
+    // The cluster of an index in the record of a fibre.
+    fn cluster(&mut self) -> Result<EventQuestion, Unread> {
+        let fibre = self.index()?;
+        let index = self.index()?;
+        Ok(EventQuestion::Cluster { fibre, index })
     }
-}
 
-// A call of the store or of the card.
-fn call(name: &str, words: &mut Words<'_>) -> Result<Command, Unread> {
-    match name {
-        "put" => Ok(Command::OfStore(put(words)?)),
-        "take" => Ok(Command::OfStore(StoreCall::Take(words.index()?))),
-        "count" => Ok(Command::OfStore(StoreCall::Level(words.index()?))),
-        "capacity" => Ok(Command::OfStore(StoreCall::Capacity)),
-        "clear" => Ok(Command::OfStore(StoreCall::Clear)),
-        _ => Ok(Command::OfCard(card_call(name, words)?)),
-    }
-}
-
-// A byte put on a fibre.
-fn put(words: &mut Words<'_>) -> Result<StoreCall, Unread> {
-    let fibre = words.index()?;
-    let byte = words.byte()?;
-    Ok(StoreCall::Put(fibre, byte))
-}
-
-// A call of the card.
-fn card_call(name: &str, words: &mut Words<'_>) -> Result<CardCall, Unread> {
-    match name {
-        "load" => Ok(CardCall::Load(words.setting()?)),
-        "clock" => clock(UpTo { number: 1 }, words),
-        "clocks" => {
-            let times = words.up_to::<MOST_CLOCKS>()?;
-            clock(times, words)
+    // The command of a name, with the words behind it that it takes.
+    fn command(&mut self, name: &str) -> Result<Command, Unread> {
+        match name {
+            "card" => self.card(),
+            "swap" => Ok(Command::Swap),
+            "store" => Ok(Command::Store(self.memory()?)),
+            "rule" => Ok(Command::Rule(self.rule()?)),
+            "estimate" => self.estimate(),
+            "unpack" => self.unpack(),
+            "record" => Ok(Command::OfEvent(EventQuestion::Record(self.index()?))),
+            "cluster" => Ok(Command::OfEvent(self.cluster()?)),
+            _ => self.call(name),
         }
-        "ask" => Ok(CardCall::Ask),
-        "fetch" => Ok(CardCall::Fetch(words.up_to::<LONGEST_BUFFER>()?)),
-        "giveback" => Ok(CardCall::GiveBack),
-        "level" => Ok(CardCall::Level(words.index()?)),
-        "reset" => Ok(CardCall::Reset),
-        _ => Err(Unread::BadLine),
     }
-}
 
-// The same Clock so many times.
-fn clock(times: UpTo<MOST_CLOCKS>, words: &mut Words<'_>) -> Result<CardCall, Unread> {
-    let samples = words.shorts()?;
-    Ok(CardCall::Clock { times, samples })
+    // A call of the store or of the card.
+    fn call(&mut self, name: &str) -> Result<Command, Unread> {
+        match name {
+            "put" => Ok(Command::OfStore(self.put()?)),
+            "take" => Ok(Command::OfStore(StoreCall::Take(self.index()?))),
+            "count" => Ok(Command::OfStore(StoreCall::Level(self.index()?))),
+            "capacity" => Ok(Command::OfStore(StoreCall::Capacity)),
+            "clear" => Ok(Command::OfStore(StoreCall::Clear)),
+            _ => Ok(Command::OfCard(self.card_call(name)?)),
+        }
+    }
+
+    // A byte put on a fibre.
+    fn put(&mut self) -> Result<StoreCall, Unread> {
+        let fibre = self.index()?;
+        let byte = self.byte()?;
+        Ok(StoreCall::Put(fibre, byte))
+    }
+
+    // A call of the card.
+    fn card_call(&mut self, name: &str) -> Result<CardCall, Unread> {
+        match name {
+            "load" => Ok(CardCall::Load(self.setting()?)),
+            "clock" => self.clock(UpTo { number: 1 }),
+            "clocks" => {
+                let times = self.up_to::<MOST_CLOCKS>()?;
+                self.clock(times)
+            }
+            "ask" => Ok(CardCall::Ask),
+            "fetch" => Ok(CardCall::Fetch(self.up_to::<LONGEST_BUFFER>()?)),
+            "giveback" => Ok(CardCall::GiveBack),
+            "level" => Ok(CardCall::Level(self.index()?)),
+            "reset" => Ok(CardCall::Reset),
+            _ => Err(Unread::BadLine),
+        }
+    }
+
+    // The same Clock so many times.
+    fn clock(&mut self, times: UpTo<MOST_CLOCKS>) -> Result<CardCall, Unread> {
+        let samples = self.shorts()?;
+        Ok(CardCall::Clock { times, samples })
+    }
 }
 
 // The command of a line whose first word is `name`, and no word more than it takes.
 fn whole_command(heap: Global, name: &[u8], rest: &[u8]) -> Result<Command, Unread> {
     let name = str::from_utf8(name).map_err(|_| Unread::BadLine)?;
-    let mut words = Words { left: rest };
-    let command = command(heap, name, &mut words)?;
+    let mut words = Words { heap, left: rest };
+    let command = words.command(name)?;
     words.end()?;
     Ok(command)
 }

@@ -24,6 +24,7 @@ fn kept<'a, T: Copy + Default + 'a>(heap: Global, size: usize) -> Result<&'a mut
     Ok(kept.as_mut_slice())
 }
 
+// An impl for each ring: one for both would name the trait of their memory, private to stores.
 impl<'a> LentStore for ByteRing<'a> {
     type Memory = &'a mut [u8];
 

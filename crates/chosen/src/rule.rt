@@ -8,6 +8,7 @@ ghost use Rattle.chosen.specs.declared.rule.ChosenRule.TheVariants.{Rank, Mean, 
 use rules::{Fixed, Mean, Rank, Rule};
 use terms::Refusal;
 
+// An enum: a line of a script chooses the rule, and what reads it may hand out no dyn value.
 #[derive(Clone, Copy)]
 pub enum ChosenRule {
     Rank,

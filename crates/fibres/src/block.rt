@@ -74,6 +74,7 @@ fn take_row(settings: &mut FibreSettings, name: &str, text: &str) -> Result<(), 
     }
 }
 
+// Functions from here on: FromStr cannot be given here to types of other crates.
 fn read_fibre(text: &str) -> Result<Fibre, Misread> {
     let index = text.parse().map_err(|_| Misread)?;
     Fibre::new(index).map_err(|_| Misread)

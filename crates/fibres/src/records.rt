@@ -20,7 +20,7 @@ pub(crate) fn print_records<O: Write>(out: &mut O, number: u64, block: &Block) -
     Ok(())
 }
 
-// The kind of the records of a mode.
+// The kind of the records of a mode: no From, since both types are other crates'.
 fn kind_in(mode: Mode) -> Kind {
     match mode {
         Mode::ZeroSuppression => Kind::ZeroSuppressed,
@@ -31,6 +31,7 @@ fn kind_in(mode: Mode) -> Kind {
 
 // Prints the bytes of the record, or the refusal.
 fn print_record<O: Write>(out: &mut O, block: &Block, mode: Mode) -> io::Result<()> {
+    // An array and a length: the libraries have no heap, so write_fibre writes into a lent buffer.
     let mut record = [0; LONGEST];
     let written = write_fibre(
         &block.rule,

@@ -4,7 +4,8 @@ use crate::failure::Failure;
 use rules::Rule;
 use std::io::Write;
 
-// Asks a rule, and prints what it answered.
+// Asks a rule, and prints what it answered. Chip, setting and values are fields of one command,
+// which is taken apart at the one call.
 pub(crate) fn print_estimate<O: Write, R: Rule>(
     answers: &mut Answers<'_, O>,
     rule: &R,

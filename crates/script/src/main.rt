@@ -17,9 +17,9 @@ use stores::{ByteRing, WordRing};
 
 fn script(rt: &HostRuntime) -> Result<(), Failure> {
     let mut script = Vec::new(rt.alloc());
-    if let Err(error) = rt.stdin().read_to_end(&mut script) {
-        return Err(Failure::Unreadable(error));
-    }
+    rt.stdin()
+        .read_to_end(&mut script)
+        .map_err(Failure::Unreadable)?;
     let mut out = BufWriter::new(rt.alloc(), rt.stdout())?;
     let result = answer_script::<ByteRing<'static>, WordRing<'static>, _>(
         rt.alloc(),
