@@ -3,6 +3,7 @@
 use Rattle.std.proofs.Common.{◌≡◌, ℕ, ◌+◌, ◌<◌, ◌≤◌, min, leb, List, [], ◌∷◌, map, reverse, length, get_or, take, drop, set, Ok, Err, Result, sym, refl, ap, ◌∙◌, subst, ap₂, ⊎_elim, arith}
 use borrow.Rule.Slice.PartMut.{put_mid}
 use Rattle.std.specs.List.{AllByRecursion}
+use Rattle.std.specs.Result.{MatchResult, IsErrAnd}
 use Rattle.std.proofs.lemmas.List.{map_push, map_more, reverse-append, take_more_set, take_all, take-take, take-append-le, drop-take, drop-drop, drop_at, drop-set-lt, length-take-le, length-drop}
 use Rattle.std.proofs.ByRecursion.{All-push, All-weaker}
 use Rattle.std.proofs.lemmas.Slice.{take-put_mid_below, drop-put_mid}
@@ -11,6 +12,7 @@ use Rattle.std.proofs.lemmas.Bool.{cases_Bool, cond-false, leb-true}
 use Rattle.terms.specs.declared.refusal.Refusal.{Refusal}
 use Rattle.terms.specs.declared.refusal.Refusal.TheVariants.{BufferTooShort}
 use Rattle.rules.specs.Rules.{Meaning}
+use Rattle.stores.proofs.Lists.{impossible}
 use Rattle.card_model.specs.Calls as model
 use Rattle.card_model.specs.State.{CardState, fresh}
 use Rattle.card_model.specs.Step.{step}
@@ -49,6 +51,19 @@ fetch_lies : (at k : ℕ) (part ys : List ℕ) (result : Result ℕ Refused) (ga
     → LiesWithin at (at + k) (fetch_answer result at)
 fetch_lies at k part ys (Ok n) gave long wrote = (omega arith, omega (arith, wrote.1))
 fetch_lies at k part ys (Err r) gave long wrote = tt
+
+-- what a Fetch returned, once its refusal has let the slip go
+pub fetched_says : (result : Result ℕ Refused) (n at : ℕ)
+    → MatchResult result (λ x. ◌≡◌ {A = Result ℕ Refusal} (Ok n) (Ok x)) (λ e. IsErrAnd {T = ℕ} {E = Refusal} (Ok n) (λ r. r ≡ e.refusal))
+    → Ok (the.Fetched at n) ≡ fetch_answer result at
+fetched_says (Ok x) n at m = let same : n ≡ x = cc in ap (λ (k : ℕ). Ok (the.Fetched at k)) same
+fetched_says (Err e) n at m = absurd m
+
+pub refused_says : (result : Result ℕ Refused) (r : Refusal) (at : ℕ) (Says : Refused → Type 0) → ((e : Refused) → Says e → r ≡ e.refusal)
+    → MatchResult result (λ x. ◌≡◌ {A = Result ℕ Refusal} (Err r) (Ok x)) Says
+    → Err r ≡ fetch_answer result at
+refused_says (Ok x) r at Says says m = impossible (cc)
+refused_says (Err e) r at Says says m = ap Err (says e m)
 
 -- a Fetch into the part of a buffer from a place on, k bytes long
 pub answered_fetch : (meaning : Meaning) (before after : CardState) (long at k : ℕ) (bytes ys gave : List ℕ) (result : Result ℕ Refused) (a : Reply)

@@ -31,6 +31,7 @@ pub(crate) fn take_event<S: Store>(store: &mut S, lengths: &[u16; 12], out: &mut
         ++ drop (event_length lengths.now) out.old }
     ensures room { S.room store.new ≡ S.room store.old }
 {
+    // A place kept by hand: by it the proof says how much of `out` is written.
     let mut at = 0;
     for (f, length) in lengths.iter().enumerate() {
         let end = at + usize::from(*length);

@@ -43,8 +43,8 @@ impl<O: Write, P: Eprint> Printer<'_, O, P> {
         }
     }
 
-    // Prints so many events from the start of a run. The survey counted them and kept none, so each is
-    // read again from what is left. By number: an iterator that stops at a fault could not name it.
+    // Prints so many events from the start of a run. The survey counted them and kept none, so each
+    // is read again from what is left. By number: an iterator that stops at a fault could not name it.
     fn print_events(&mut self, run: &[u8], events: usize) -> Result<(), Failure> {
         let mut left = run;
         for index in 0..events {

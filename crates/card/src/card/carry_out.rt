@@ -21,10 +21,10 @@ impl<R: Rule + Drop, S: Store + Drop> Card<R, S> {
         ensures rule { self.new.rule ≡ self.old.rule }
     {
         let end = at + long;
-        match self.fetch(Slip::new(0), &mut bytes[at..end]) {
-            Ok(length) => Ok(Answer::Fetched { at, length }),
-            Err(refused) => Err(refused.spend()),
-        }
+        let length = self
+            .fetch(Slip::new(0), &mut bytes[at..end])
+            .map_err(|refused| refused.spend())?;
+        Ok(Answer::Fetched { at, length })
     }
 
     // Carries out a call. A Fetch is lent its part of the bytes, from a place on.

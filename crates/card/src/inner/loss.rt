@@ -19,6 +19,7 @@ impl Core {
         if self.waiting.len() >= MOST {
             return Some(Loss::TooMany);
         }
+        // A loop: of a find over the numbers of the fibres a proof did not close.
         for (f, length) in lengths.iter().enumerate() {
             if usize::from(*length) > free_room(store, f) {
                 return Some(Loss::NoRoom(f));

@@ -53,7 +53,7 @@ impl<'a> Record<'a> {
     pub fn cluster_count(&self) -> Option<usize>
         ensures { result ≡ count_of (content_of self.now) }
     {
-        // No `map`: tried, and the proof did not close; the closure keeps what `count` says to itself.
+        // No `map`: tried, and the proof did not close: what `count` says stays in the closure.
         let clusters = self.clusters()?;
         Some(clusters.count())
     }
