@@ -22,6 +22,15 @@ unfolding state_of
 same_room meaning core lists room made calls e =
     sym (ap (λ (s : CardState). s.readout.room) e) ∙ (readout_laws.in_order meaning made calls).capacity
 
+pub laws_after_list : (meaning : Meaning) → Bounded meaning → (core : Core) (lists : List (List ℕ)) (room : ℕ) → room ≤ largest
+    → (more : List Call) → LawsAfterList meaning (state_of core lists room) more
+laws_after_list meaning bounded core lists room small more made calls e =
+    three_laws meaning made (subst (λ (r : ℕ). r ≤ largest) (same_room meaning core lists room made calls e) small) bounded (more ++ calls)
+
+pub laws_after : (meaning : Meaning) → Bounded meaning → (core : Core) (lists : List (List ℕ)) (room : ℕ) → room ≤ largest
+    → (call : Call) → LawsAfter meaning (state_of core lists room) call
+laws_after meaning bounded core lists room small call = laws_after_list meaning bounded core lists room small (call ∷ [])
+
 -- at a card over a rule and a store, as its callers see it
 module _ {R S : Type 0} {meaning : R → Meaning} (bounded : (rule : R) → Bounded (meaning rule))
     (s : Ghosts S) (sound : (store : S) → Sound (s.room store) (s.lists store))
@@ -29,9 +38,7 @@ module _ {R S : Type 0} {meaning : R → Meaning} (bounded : (rule : R) → Boun
   pub keeps_laws_list : (more : List Call) → LawsAfterList (meaning held.rule) held.state more
   keeps_laws_list more =
       subst (λ (h : Held R). LawsAfterList (meaning h.rule) h.state more) is
-      (λ made calls e.
-      let same : s.room store ≡ made = same_room (meaning rule) core (s.lists store) (s.room store) made calls e in
-      three_laws (meaning rule) made (subst (λ (r : ℕ). r ≤ largest) same (sound store).limit) (bounded rule) (more ++ calls))
+      (laws_after_list (meaning rule) (bounded rule) core (s.lists store) (s.room store) (sound store).limit more)
 
   pub keeps_laws : (call : Call) → LawsAfter (meaning held.rule) held.state call
   keeps_laws call = keeps_laws_list (call ∷ [])

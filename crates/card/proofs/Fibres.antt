@@ -21,6 +21,9 @@ pub record Upto {X : Type 0} (g : ℕ → X) (d : X) (before : List X) (i : ℕ)
   pub at : (f : ℕ) → f < 12 → get_or xs f d ≡ cond (ltb f i) (g f) (get_or before f d)
 
 module _ {X : Type 0} (g : ℕ → X) (d : X) (before : List X) where
+  pub upto_none : Upto g d before 0 before
+  upto_none = record { at = λ f h. sym (cond-false (ltb f 0) (g f) (get_or before f d) (le-ltb f 0 (omega arith))) }
+
   pub upto_here : (i : ℕ) (xs : List X) → i < 12 → Upto g d before i xs → get_or xs i d ≡ get_or before i d
   upto_here i xs h inv = inv.at i h ∙ cond-false (ltb i i) (g i) (get_or before i d) (le-ltb i i (omega arith))
 

@@ -8,3 +8,4 @@ pub mod Taking
 pub mod Carrying
 pub mod CardLaws
 pub mod Held
+pub mod Standing

@@ -29,6 +29,30 @@ pub place : (xs : List Reached) (i j : ℕ) → i ≡ j → get_or xs i nothing 
 place xs i j e = ap (λ k. get_or xs k nothing) e
 
 -- ---- sliding over a chip
+-- strip n+2 comes into the window around the strip before n
+pub slid_in : (chip : List Reached) (n : ℕ) → drop 1 (window (nothing ∷ chip) n) ++ get_or chip (n + 2) nothing ∷ [] ≡ window chip n
+slid_in chip n =
+    let front = nothing ∷ nothing ∷ chip in
+    let more = nothing ∷ front in
+    let e0 : get_or more (n + 1) nothing ≡ get_or front (n + 0) nothing = place more (n + 1) (suc (n + 0)) (omega arith) in
+    let e1 : get_or more (n + 2) nothing ≡ get_or front (n + 1) nothing = place more (n + 2) (suc (n + 1)) (omega arith) in
+    let e2 : get_or more (n + 3) nothing ≡ get_or front (n + 2) nothing = place more (n + 3) (suc (n + 2)) (omega arith) in
+    let e3 : get_or more (n + 4) nothing ≡ get_or front (n + 3) nothing = place more (n + 4) (suc (n + 3)) (omega arith) in
+    let e4 : get_or chip (n + 2) nothing ≡ get_or front (n + 4) nothing = sym (place front (n + 4) (suc (suc (n + 2))) (omega arith)) in
+    cc
+
+-- the window around strip n, before it slides on
+pub slid_on : (chip : List Reached) (n : ℕ) → window chip n ≡ window (nothing ∷ chip) (n + 1)
+slid_on chip n =
+    let front = nothing ∷ nothing ∷ chip in
+    let more = nothing ∷ front in
+    let e0 : get_or more (n + 1 + 0) nothing ≡ get_or front (n + 0) nothing = place more (n + 1 + 0) (suc (n + 0)) (omega arith) in
+    let e1 : get_or more (n + 1 + 1) nothing ≡ get_or front (n + 1) nothing = place more (n + 1 + 1) (suc (n + 1)) (omega arith) in
+    let e2 : get_or more (n + 1 + 2) nothing ≡ get_or front (n + 2) nothing = place more (n + 1 + 2) (suc (n + 2)) (omega arith) in
+    let e3 : get_or more (n + 1 + 3) nothing ≡ get_or front (n + 3) nothing = place more (n + 1 + 3) (suc (n + 3)) (omega arith) in
+    let e4 : get_or more (n + 1 + 4) nothing ≡ get_or front (n + 4) nothing = place more (n + 1 + 4) (suc (n + 4)) (omega arith) in
+    cc
+
 -- a chip between two strips on either side that reach nothing
 abbrev pub between_nothing : List Reached → List Reached
 between_nothing chip = (nothing ∷ nothing ∷ chip) ++ nothing ∷ nothing ∷ []

@@ -18,18 +18,16 @@ pub(crate) fn print_contents<O: Write>(out: &mut O, event: &Event<'_>) -> io::Re
 }
 
 fn print_record<O: Write>(out: &mut O, record: &Record<'_>) -> io::Result<()> {
-    let name = match record.kind() {
-        Kind::ZeroSuppressed => "zero-suppressed",
-        Kind::ProcessedRaw => "processed raw",
-        Kind::VirginRaw => "virgin raw",
-    };
-    write!(out, "{name}")?;
+    match record.kind() {
+        Kind::ZeroSuppressed => write!(out, "zero-suppressed")?,
+        Kind::ProcessedRaw => writeln!(out, "processed raw")?,
+        Kind::VirginRaw => writeln!(out, "virgin raw")?,
+    }
     if let Some(modes) = record.common_modes() {
         let left = modes.left;
         let right = modes.right;
-        write!(out, ", common modes {left} {right}")?;
+        writeln!(out, ", common modes {left} {right}")?;
     }
-    writeln!(out, "")?;
     if let Some(clusters) = record.clusters() {
         for cluster in clusters {
             print_cluster(out, cluster)?;

@@ -1,17 +1,17 @@
 -- What the end of a walk over twelve records says of the input.
 -- Assumes nothing.
 use Rattle.std.proofs.Common.{◌≡◌, ℕ, ◌+◌, ◌≤◌, eqb, List, [], ◌++◌, length, get_or, take, drop, Some, None, Ok, Err, Result, sym, refl, ap, ◌∙◌, ap₂, arith, length-append, take-append-drop}
-use Rattle.std.proofs.lemmas.List.{append-nil, take_at, drop_at, length-take-le}
-use Rattle.std.proofs.lemmas.Bool.{ne_eqb}
+use Rattle.std.proofs.lemmas.List.{append-nil, take_at, drop_at, length-take-le, nil_from_length}
+use Rattle.std.proofs.lemmas.Bool.{eq-eqb, ne_eqb}
 use Rattle.std.specs.List.{AllByRecursion}
 use Rattle.layout.specs.Event.{Byte, Event, EventOk, bytes_of}
 use Rattle.faults.specs.declared.fault.EventFault.{EventFault}
 use Rattle.faults.specs.declared.fault.EventFault.TheVariants as events
 use Rattle.reader.specs.declared.event.Event as parts
-use Rattle.reader.specs.Parts.{event_bytes, Rejected, AcceptedFront, RejectedFront}
+use Rattle.reader.specs.Parts.{event_bytes, Accepted, Rejected, AcceptedFront, RejectedFront}
 use Rattle.reader.specs.Questions.{ask, and_then, read_event, ok_map, Walked, ends_at, event_from, kind_of, known_kind, read_first, read_records}
 use Rattle.reader.proofs.Asks.{err_ok, ok_same, err_same, ok_map_ok}
-use Rattle.reader.proofs.Steps.{refused}
+use Rattle.reader.proofs.Steps.{asked, refused}
 use Rattle.reader.proofs.Walk.{records_at}
 use Rattle.reader.proofs.EventLaws.{first_sound, comes_back}
 
@@ -94,6 +94,20 @@ whole_read :
     read_first bs ≡ Ok (e, n) →
     read_event bs ≡ ask (eqb n (length bs)) (events.LeftOver n) (Ok e)
 whole_read bs e n h = ap (λ r. and_then r (λ p. ask (eqb p.1 (length bs)) (events.LeftOver p.1) (Ok p.0))) h
+
+-- nothing lies behind the event
+pub accepted : (bs : List ℕ) (e : parts.Event) (rest : List ℕ) → AcceptedFront bs e rest → length rest ≡ 0 → Accepted bs e
+accepted bs e rest a none =
+    let nil : rest ≡ [] = nil_from_length rest none in
+    let whole : event_bytes e ≡ bs = sym (append-nil (event_bytes e)) ∙ (ap (λ ys. event_bytes e ++ ys) (sym nil) ∙ a.whole) in
+    let n : ℕ = length (event_bytes e) in
+    record {
+      value = a.value;
+      read = whole_read bs a.value n a.read ∙ asked _ _ _ (eq-eqb n (length bs) (ap length whole));
+      holds = a.holds;
+      whole = whole;
+      only = λ d s. (a.only d [] s.0 (append-nil (bytes_of d) ∙ s.1)).0;
+    }
 
 -- something lies behind it
 pub left_over :

@@ -56,6 +56,32 @@ pub words_back : (ws : List ℕ) → words_in (flat_map word ws) ≡ ws
 words_back [] = refl
 words_back (w ∷ ws) = ap₂ (λ v vs. v ∷ vs) (number_of_word w) (words_back ws)
 
+-- the word of an index lies in two bytes, where there are so many; past them there is none
+pub word_in : (xs : List ℕ) (i : ℕ) → 2 * i + 1 < length xs → slice_get (words_in xs) i ≡ Some (number_in (get_or xs (2 * i) 0) (get_or xs (2 * i + 1) 0))
+word_in [] i h = absurd (omega arith)
+word_in (x ∷ []) i h = absurd (omega arith)
+word_in (lo ∷ hi ∷ xs) zero h = refl
+word_in (lo ∷ hi ∷ xs) (suc i) h =
+    let first : 2 * suc i ≡ suc (suc (2 * i)) = omega arith in
+    let second : 2 * suc i + 1 ≡ suc (suc (2 * i + 1)) = omega arith in
+    word_in xs i (omega arith)
+    ∙ sym (ap₂ (λ a b. Some (number_in (get_or (lo ∷ hi ∷ xs) a 0) (get_or (lo ∷ hi ∷ xs) b 0))) first second)
+
+pub word_past : (xs : List ℕ) (i : ℕ) → length xs < 2 * i + 2 → slice_get (words_in xs) i ≡ None
+word_past [] i h = refl
+word_past (x ∷ []) i h = refl
+word_past (lo ∷ hi ∷ xs) zero h = absurd (omega arith)
+word_past (lo ∷ hi ∷ xs) (suc i) h = word_past xs i (omega arith)
+
+-- and of words that were written
+pub word_at : (ws : List ℕ) (i : ℕ) → i < length ws → number_in (get_or (flat_map word ws) (2 * i) 0) (get_or (flat_map word ws) (2 * i + 1) 0) ≡ get_or ws i 0
+word_at [] i h = absurd (omega arith)
+word_at (w ∷ ws) zero h = number_of_word w
+word_at (w ∷ ws) (suc i) h =
+    let lo : 2 * suc i ≡ suc (suc (2 * i)) = omega arith in
+    let hi : 2 * suc i + 1 ≡ suc (suc (2 * i + 1)) = omega arith in
+    ap₂ (λ a b. number_in (get_or (flat_map word (w ∷ ws)) a 0) (get_or (flat_map word (w ∷ ws)) b 0)) lo hi ∙ word_at ws i (omega arith)
+
 pub words_few : (xs : List ℕ) → 2 * length (words_in xs) ≤ length xs
 words_few [] = omega arith
 words_few (x ∷ []) = omega arith
@@ -103,10 +129,9 @@ pub read_all : (at : ℕ) (xs : List ℕ) → word_fault at (position_from too_l
 read_all at xs = let e : at + 2 * 0 ≡ at = omega arith in words_verdict at 0 xs ∙ ap (λ i. verdict (read_words i xs)) e
 
 -- the word of an index, where the record has words
-pub word_there : (c : Content) (left : List ℕ) (o : Option ℕ) (i : ℕ) → Some left ≡ words_of c → option_map (λ w. w) o ≡ slice_get left i → o ≡ word_of c i
+pub word_there : (c : Content) (left : List ℕ) (o : Option ℕ) (i : ℕ) → Some left ≡ words_of c → o ≡ slice_get left i → o ≡ word_of c i
 word_there (suppressed m cs) left o i h n = absurd (none_some left (sym h))
-word_there (words ws) left None i h n = n ∙ ap (λ l. slice_get l i) (some_same left ws h)
-word_there (words ws) left (Some w) i h n = n ∙ ap (λ l. slice_get l i) (some_same left ws h)
+word_there (words ws) left o i h n = n ∙ ap (λ l. slice_get l i) (some_same left ws h)
 
 pub ok_or_some : {A E : Type 0} (o : Option A) (e : E) (x : A) → Ok x ≡ ok_or o e → o ≡ Some x
 ok_or_some None e x h = absurd (ok_err e x h)

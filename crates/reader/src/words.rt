@@ -1,6 +1,7 @@
 // Reads the ten-bit words of a record.
 ghost use Rattle.std.specs.Prelude.{◌≡◌, ℕ, List};
 ghost use Rattle.std.specs.Iterator.{YieldsFirst, item_count};
+ghost use Rattle.std.specs.List.{slice_get};
 ghost use Rattle.reader.specs.Items.{words_in};
 ghost use Rattle.reader.specs.Parts.{words_left};
 ghost use Rattle.reader.specs.Questions.{verdict, number_in, read_words};
@@ -27,6 +28,16 @@ impl Words<'_> {
         ensures { words_left result ≡ words_in bytes.now }
     {
         Words { left: bytes }
+    }
+
+    // The word of an index, in one step: `nth` goes over all those before it.
+    pub(crate) fn get(&self, index: usize) -> Option<u16>
+        ensures { result ≡ slice_get (words_left self.now) index }
+    {
+        if index >= self.left.len() / 2 {
+            return None;
+        }
+        Some(number_in(self.left[2 * index], self.left[2 * index + 1]))
     }
 }
 

@@ -1,12 +1,12 @@
 -- What a tally tells: its counts add up to the numbers of values below each bin, and two tallies find a position.
 -- Assumes nothing.
-use Rattle.std.proofs.Common.{◌≡◌, ℕ, zero, suc, ◌+◌, ◌-◌, ◌*◌, ◌/◌, ◌%◌, ◌<◌, ◌≤◌, Bool, true, false, cond, ◌&&◌, eqb, ltb, List, [], ◌∷◌, ◌++◌, map, length, get_or, take, replicate, Some, None, sum, count_by, filter, sym, refl, ap, ◌∙◌, subst, append-nil, add-one, arith}
+use Rattle.std.proofs.Common.{◌≡◌, ℕ, zero, suc, ◌+◌, ◌-◌, ◌*◌, ◌/◌, ◌%◌, ◌<◌, ◌≤◌, Bool, true, false, cond, ◌&&◌, eqb, ltb, List, [], ◌∷◌, ◌++◌, map, length, get_or, take, set, replicate, Some, None, sum, count_by, filter, sym, refl, ap, ◌∙◌, subst, inl, inr, append-nil, add-one, arith}
 use Rattle.std.specs.List.{AllByRecursion}
 use Rattle.std.proofs.lemmas.List.Elements.{filter_more}
 use Rattle.std.proofs.ByRecursion.{All-map, All-weaker}
-use Rattle.std.proofs.lemmas.List.{get_or-replicate, length-map, length-take-le, map_more, map-append}
+use Rattle.std.proofs.lemmas.List.{length-set, get_or-set_same, get_or-set_other, get_or-replicate, length-map, length-take-le, map_more, map-append}
 use Rattle.std.proofs.lemmas.List.Sums.{sum_by_more, sum_by_push, count_by-le-length, length-filter}
-use Rattle.std.proofs.lemmas.Bool.{eq-eqb, ne_eqb, eqb-true, eqb-false, cond-true, cond-false}
+use Rattle.std.proofs.lemmas.Bool.{eq-eqb, ne_eqb, eqb-true, eqb-false, cases_eq, cond-true, cond-false}
 use Rattle.std.proofs.lemmas.Bool.Decides.{nat_tests}
 use Rattle.rules.specs.Rules.{below, HasPosition, value_at}
 use Rattle.rules.specs.Bins.{Tallies, tops, bottoms}
@@ -15,6 +15,16 @@ use Rattle.rules.specs.Counts.{mark, count_cons, count_split, below_more, below_
 
 pub tallies_none : Tallies (replicate 32 0) []
 tallies_none = record { long = refl; each = λ b h. get_or-replicate 32 b 0 0 h }
+
+-- one more value, in the bin k
+pub tallies_more : (counts ks : List ℕ) (k : ℕ) → k < 32 → Tallies counts ks → Tallies (set counts k (get_or counts k 0 + 1)) (k ∷ ks)
+tallies_more counts ks k within t = record {
+  long = length-set counts k (get_or counts k 0 + 1) ∙ t.long;
+  each = λ b h. rw (count_cons (λ j. eqb j b) k ks) (elim (cases_eq b k) [
+    | inl e ↦ rw e (get_or-set_same counts k (get_or counts k 0 + 1) 0 (omega (arith, t.long)) ∙ omega (arith, t.each k within, ap mark (eq-eqb k k refl)))
+    | inr ne ↦ get_or-set_other counts k b (get_or counts k 0 + 1) 0 ne ∙ omega (arith, t.each b h, ap mark (ne_eqb k b (λ e. ne (sym e))))
+  ]);
+}
 
 -- the order of the values does not matter
 tallies_last : (counts ks : List ℕ) (k : ℕ) → Tallies counts (k ∷ ks) → Tallies counts (ks ++ k ∷ [])

@@ -12,6 +12,10 @@ pub ok_parts : {A : Type 0} (q : Result (Unit {0}) Refusal) (x a : A) → Ok x �
 ok_parts (Ok tt) x a e = (refl, cc)
 ok_parts (Err r) x a e = let z : ◌≡◌ {A = ℕ} 0 1 = cc in absurd (omega arith)
 
+pub err_part : {A : Type 0} (q : Result (Unit {0}) Refusal) (e : Refusal) (a : A) → Err e ≡ answering q a → Err e ≡ q
+err_part (Ok tt) e a h = let z : ◌≡◌ {A = ℕ} 0 1 = cc in absurd (omega arith)
+err_part (Err r) e a h = cc
+
 pub answered_by : {A : Type 0} (q : Result (Unit {0}) Refusal) (x a : A) → Ok tt ≡ q → a ≡ x → Ok x ≡ answering q a
 answered_by q x a e is = rw (← e, is)
 

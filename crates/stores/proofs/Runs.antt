@@ -1,13 +1,13 @@
 -- Lists of calls, one call at a time, and first in, first out. Assumes nothing.
 use Rattle.std.proofs.Common.{◌≡◌, ℕ, suc, ◌+◌, ◌<◌, ◌≤◌, Bool, true, false, cond, eqb, List, [], ◌∷◌, ◌++◌, length, get_or, take, drop, set, is_ok, Ok, Err, Result, sym, refl, ap, ◌∙◌, ap₂, ⊎_elim, arith}
-use Rattle.std.proofs.lemmas.List.{append-nil, append_assoc, length-set, get_or-set_other, take_more, drop_more, set_at, take_all, length-take-le}
+use Rattle.std.proofs.lemmas.List.{append-nil, append_assoc, length-set, get_or-set_other, take_more, drop_more, set_at, take_at, take_all, length-take-le}
 use Rattle.std.proofs.lemmas.Bool.{cases_eq, eq-eqb, ne_eqb}
 use Rattle.terms.specs.declared.refusal.Refusal.{Refusal}
 use Rattle.stores.specs.declared.call.StoreCall.{StoreCall}
 use Rattle.stores.specs.declared.call.StoreCall.TheVariants.{Put, Take, Level, Capacity, Clear}
 use Rattle.stores.specs.declared.call.StoreReply.TheVariants.{Done, Byte}
 use Rattle.stores.specs.Store.{waiting, level_of, oldest, appended, without, put_questions, take_questions, answering}
-use Rattle.stores.specs.Runs.{StoreAnswer, as_answer, answer_to, lists_after, answers_to, lists_after_all, put_by, taken_by, over_all, Ran, Keeps, FirstInFirstOut}
+use Rattle.stores.specs.Runs.{StoreAnswer, as_answer, answer_to, lists_after, answers_to, lists_after_all, put_by, taken_by, over_all, Ran, Alike, Keeps, FirstInFirstOut}
 use Rattle.stores.proofs.Lists.{put_fits, take_fits, waiting_appended, waiting_without}
 
 -- ---- one call more
@@ -152,3 +152,16 @@ in_order (c ∷ cs) lists room rest twelve keeps f =
     ∙ append_assoc (taken_by f c a) (waiting next f) puts
     ∙ ap (λ xs. taken_by f c a ++ xs) (in_order cs next room rest (still_twelve lists room c twelve) keeps.1 f)
     ∙ sym (append_assoc (taken_by f c a) (over_all (taken_by f) cs later) (waiting (lists_after_all room next cs) f))
+
+-- two stores of one capacity and equal lists
+pub ran_alike : (room room₂ : ℕ) (lists lists₂ : List (List ℕ)) (calls : List StoreCall) (row row₂ : List StoreAnswer) (room' room₂' : ℕ) (lists' lists₂' : List (List ℕ)) (row' row₂' : List StoreAnswer)
+    → Ran room lists calls row true room' lists' row' → Ran room₂ lists₂ calls row₂ true room₂' lists₂' row₂'
+    → room ≡ room₂ → lists ≡ lists₂ → Alike (length calls) row' row₂' lists' lists₂'
+ran_alike room room₂ lists lists₂ calls row row₂ room' room₂' lists' lists₂' row' row₂' one other r l =
+    record {
+      answers =
+          ap (take (length calls)) one.answers ∙ take_at (answers_to room lists calls) _ (length calls) (length_answers room lists calls)
+          ∙ ap₂ (λ n ls. answers_to n ls calls) r l
+          ∙ sym (ap (take (length calls)) other.answers ∙ take_at (answers_to room₂ lists₂ calls) _ (length calls) (length_answers room₂ lists₂ calls));
+      lists_then = one.lists_then ∙ ap₂ (λ n ls. lists_after_all n ls calls) r l ∙ sym other.lists_then;
+    }

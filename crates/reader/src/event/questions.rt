@@ -7,7 +7,7 @@ ghost use Rattle.reader.specs.Parts.{records_left, records_of, value_of, event_b
 use crate::event::Event;
 use crate::record::{Record, Records};
 use layout::Kind;
-use terms::Refusal;
+use terms::{Fibre, Refusal};
 
 impl<'a> Event<'a> {
     // The kind of its twelve records.
@@ -36,6 +36,9 @@ impl<'a> Event<'a> {
     pub fn record(&self, fibre: usize) -> Result<Record<'a>, Refusal>
         ensures { MatchResult result (RecordOf self.now fibre) (λ e. (12 ≤ fibre) × (e ≡ NoSuchFibre)) }
     {
-        self.records().nth(fibre).ok_or(Refusal::NoSuchFibre)
+        let fibre = Fibre::new(fibre)?;
+        self.records()
+            .nth(fibre.index())
+            .ok_or(Refusal::NoSuchFibre)
     }
 }

@@ -80,6 +80,6 @@ impl<'a> Record<'a> {
     pub fn word(&self, index: usize) -> Option<u16>
         ensures { result ≡ word_of (content_of self.now) index }
     {
-        self.words()?.nth(index)
+        self.words()?.get(index)
     }
 }

@@ -1,6 +1,6 @@
 use Rattle.std.proofs.Common.{◌≤◌, length, arith}
-use Rattle.card.specs.Abstraction.{rows_in, state_of}
-use Rattle.card.proofs.Standing.{capture_within}
+use Rattle.card.specs.Abstraction.{state_of}
+use Rattle.card.proofs.Standing.{all_in_reach, capture_within, capture_stands}
 use Rattle.card.proofs.card.Card.stands.Goals as goal
 
 pub returns-clause-store : goal.returns-clause-store
@@ -13,6 +13,14 @@ returns-clause-waiting g c =
     let few : length c.self.inside.core.waiting ≤ 255 = omega (arith, c.len.ensures.few, c.len.ensures.count) in
     rw (← c.self.view_is) few
 
+pub returns-clause-tickers : goal.returns-clause-tickers
+unfolding state_of
+returns-clause-tickers g c = rw (← c.self.view_is) (all_in_reach c.self.inside.core.tickers)
+
 pub returns-clause-capture : goal.returns-clause-capture
 unfolding state_of
-returns-clause-capture g c = rw (← c.self.view_is) (capture_within (rows_in c.self.inside.core.rows) c.self.inside.core.capture)
+returns-clause-capture g c = rw (← c.self.view_is) (capture_within c.self.inside.core.rows c.self.inside.core.capture)
+
+pub returns-clause-samples : goal.returns-clause-samples
+unfolding state_of
+returns-clause-samples g c = rw (← c.self.view_is) (capture_stands c.self.inside.core.rows c.self.inside.core.capture)
