@@ -25,6 +25,8 @@ const LARGEST_SETTING: u32 = 255;
 const MOST_VALUES: usize = 1000;
 // The most digits of an event.
 const MOST_DIGITS: usize = 100_000;
+// The most letters of a name.
+const LONGEST_NAME: usize = 8;
 
 // Why a line could not be read.
 #[derive(Clone, Copy)]
@@ -45,6 +47,14 @@ impl<T: Drop> From<AllocFailed<T>> for Unread {
     fn from(_refused: AllocFailed<T>) -> Unread {
         Unread::NoMemory
     }
+}
+
+// A word as the text of a name. One that is longer than every name is not read: it may be very long.
+fn name_in(word: &[u8]) -> Option<&str> {
+    if word.len() > LONGEST_NAME {
+        return None;
+    }
+    str::from_utf8(word).ok()
 }
 
 // A number of sixteen bits.
@@ -79,7 +89,7 @@ impl<'a> Words<'a> {
 
     // A word that is a name of something.
     fn name(&mut self) -> Result<&'a str, Unread> {
-        str::from_utf8(self.word()?).map_err(|_| Unread::BadLine)
+        name_in(self.word()?).ok_or(Unread::BadLine)
     }
 
     // No word is left.
@@ -175,14 +185,15 @@ impl<'a> Words<'a> {
 
     // The bytes of an event, or the word that stands for those that were fetched last.
     fn unpack(&mut self) -> Result<Command, Unread> {
-        match self.name()? {
-            "last" => Ok(Command::UnpackLast),
-            "-" => Ok(Command::Unpack(Vec::new(self.heap))),
-            digits => {
-                if digits.len() > MOST_DIGITS {
+        let word = self.word()?;
+        match name_in(word) {
+            Some("last") => Ok(Command::UnpackLast),
+            Some("-") => Ok(Command::Unpack(Vec::new(self.heap))),
+            _ => {
+                if word.len() > MOST_DIGITS {
                     return Err(Unread::BadLine);
                 }
-                let bytes = read_bytes(self.heap, digits.as_bytes())?.ok_or(Unread::BadLine)?;
+                let bytes = read_bytes(self.heap, word)?.ok_or(Unread::BadLine)?;
                 Ok(Command::Unpack(bytes))
             }
         }
@@ -256,7 +267,7 @@ impl<'a> Words<'a> {
 
 // The command of a line whose first word is `name`, and no word more than it takes.
 fn whole_command(heap: Global, name: &[u8], rest: &[u8]) -> Result<Command, Unread> {
-    let name = str::from_utf8(name).map_err(|_| Unread::BadLine)?;
+    let name = name_in(name).ok_or(Unread::BadLine)?;
     let mut words = Words { heap, left: rest };
     let command = words.command(name)?;
     words.end()?;

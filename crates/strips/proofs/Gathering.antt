@@ -1,9 +1,9 @@
--- The values of a chip's strips that count, gathered strip by strip.
+-- The values of a chip's strips that count, gathered strip by strip at the front of a row.
 -- Assumes nothing.
-use Rattle.std.proofs.Common.{◌≡◌, ℕ, ◌+◌, ◌-◌, ◌*◌, ◌<◌, ◌≤◌, zero, suc, Bool, true, false, not, cond, List, [], ◌∷◌, ◌++◌, map, length, get_or, filter, sym, refl, ap, ◌∙◌, append-nil, arith}
-use Rattle.std.proofs.lemmas.List.{map-append, length-map}
-use Rattle.std.proofs.lemmas.List.FromFn.{filter_of_map_range_with_len_more, length-range_with_len}
-use Rattle.std.proofs.lemmas.List.Filters.{length-filter_both}
+use Rattle.std.proofs.Common.{◌≡◌, ℕ, zero, suc, ◌+◌, ◌-◌, ◌*◌, ◌<◌, ◌≤◌, Bool, true, false, cond, List, [], ◌∷◌, ◌++◌, map, length, get_or, take, set, filter, sym, refl, ap, ◌∙◌, append-nil, add-zero, add-one, arith, length-set, take-suc-set}
+use mir.Val.{bool_byte}
+use Rattle.std.proofs.lemmas.List.{take-set, map-append}
+use Rattle.std.proofs.lemmas.List.FromFn.{filter_of_map_range_with_len_more}
 use Rattle.std.proofs.lemmas.Bool.{lt-ltb, le-ltb}
 use Rattle.std.specs.List.{range_with_len}
 use Rattle.terms.specs.declared.pair.Side.{Side}
@@ -11,15 +11,13 @@ use Rattle.terms.specs.declared.pair.Side.TheVariants.{Left, Right}
 use Rattle.terms.specs.Terms.{enabled, side_number}
 use Rattle.settings.specs.declared.fibre.FibreSettings.{FibreSettings}
 use Rattle.settings.specs.Settings.{of_strip}
-use Rattle.strips.specs.Fibre.{side_of, counts, counted_strips, counted_values}
+use Rattle.strips.specs.Fibre.{side_of, counts, counted_strips}
 
--- the strips from first up to strip that count
-abbrev counted : FibreSettings → ℕ → ℕ → List ℕ
-counted fibre first strip = filter (counts fibre) (range_with_len first (strip - first))
-
--- they have given their values
-abbrev pub Gathered : FibreSettings → List ℕ → List ℕ → ℕ → ℕ → Type 0
-Gathered fibre values got first strip = got ≡ map (λ s. get_or values s 0) (counted fibre first strip)
+-- those of the strips from first up to strip that count are at the front of the row
+pub record Gathered (fibre : FibreSettings) (values row : List ℕ) (first strip count : ℕ) : Type 0 where
+  pub long : length row ≡ 128
+  pub few : count ≤ strip - first
+  pub here : take count row ≡ map (λ s. get_or values s 0) (filter (counts fibre) (range_with_len first (strip - first)))
 
 -- a strip from the first of a chip on lies on that chip
 pub on_chip : (side : Side) (s : ℕ) → 128 * side_number side ≤ s → s < 128 * side_number side + 128 → side_of s ≡ side
@@ -51,45 +49,61 @@ map_same (x ∷ xs) = ap (λ (r : List ℕ). x ∷ r) (map_same xs)
 kept_more : (p : ℕ → Bool) (a n j : ℕ) → a + n ≡ j → filter p (range_with_len a (n + 1)) ≡ filter p (range_with_len a n) ++ cond (p j) (j ∷ []) []
 kept_more p a n j e = simp map_same at (filter_of_map_range_with_len_more p (λ x. x) a n j e)
 
--- one more strip
-counted_more : (fibre : FibreSettings) (first strip : ℕ) (b : Bool) → first ≤ strip → counts fibre strip ≡ b
-    → counted fibre first (strip + 1) ≡ counted fibre first strip ++ cond b (strip ∷ []) []
-counted_more fibre first strip b low e =
-    let one : strip + 1 - first ≡ strip - first + 1 = omega arith in
-    let back : first + (strip - first) ≡ strip = omega arith in
-    ap (λ n. filter (counts fibre) (range_with_len first n)) one
-    ∙ kept_more (counts fibre) first (strip - first) strip back
-    ∙ ap (λ c. counted fibre first strip ++ cond c (strip ∷ []) []) e
+pub gathered_none : (fibre : FibreSettings) (values row : List ℕ) (first : ℕ) → length row ≡ 128 → Gathered fibre values row first first 0
+gathered_none fibre values row first long =
+    let none : first - first ≡ 0 = omega arith in
+    record { long = long; few = omega arith; here = rw none }
 
-module _ (fibre : FibreSettings) (values got : List ℕ) (first strip : ℕ) (low : first ≤ strip) (so_far : Gathered fibre values got first strip) where
-  -- no more values than strips
-  pub gathered_few : length got ≤ strip - first
-  gathered_few =
-      let a = ap length so_far in
-      let b = length-map (counted fibre first strip) (λ s. get_or values s 0) in
-      let c = length-filter_both (counts fibre) (λ s. not (counts fibre s)) (λ _. refl) (range_with_len first (strip - first)) in
-      let d = length-range_with_len first (strip - first) in omega arith
+module _ (fibre : FibreSettings) (values row : List ℕ) (first strip count : ℕ) (so_far : Gathered fibre values row first strip count) (low : first ≤ strip) (high : strip < first + 128) where
+  one_on : strip + 1 - first ≡ strip - first + 1
+  one_on = omega arith
 
-  pub gathered_one : counts fibre strip ≡ true → Gathered fibre values (got ++ get_or values strip 0 ∷ []) first (strip + 1)
-  gathered_one e =
-      ap (λ xs. xs ++ get_or values strip 0 ∷ []) so_far
-      ∙ sym (map-append (λ s. get_or values s 0) (counted fibre first strip) (strip ∷ []))
-      ∙ ap (map (λ s. get_or values s 0)) (sym (counted_more fibre first strip true low e))
+  back : first + (strip - first) ≡ strip
+  back = omega arith
 
-  pub gathered_none : counts fibre strip ≡ false → Gathered fibre values got first (strip + 1)
-  gathered_none e =
-      so_far ∙ ap (map (λ s. get_or values s 0)) (sym (counted_more fibre first strip false low e ∙ append-nil (counted fibre first strip)))
+  more_by : (v : Bool) → counts fibre strip ≡ v
+      → Gathered fibre values (set row count (get_or values strip 0)) first (strip + 1) (count + bool_byte v)
+  more_by true e =
+      let inside : count < length row = omega (arith, so_far.long, so_far.few) in
+      record {
+        long = simp length-set so_far.long;
+        few = omega (arith, so_far.few);
+        here =
+            ap (λ (n : ℕ). take n (set row count (get_or values strip 0))) (add-one count)
+            ∙ (take-suc-set row count (get_or values strip 0) inside
+            ∙ (ap (λ (xs : List ℕ). xs ++ get_or values strip 0 ∷ []) so_far.here
+            ∙ (sym (map-append (λ s. get_or values s 0) (filter (counts fibre) (range_with_len first (strip - first))) (strip ∷ []))
+            ∙ ap (map (λ s. get_or values s 0))
+            (sym (ap (λ (n : ℕ). filter (counts fibre) (range_with_len first n)) one_on
+            ∙ (kept_more (counts fibre) first (strip - first) strip back
+            ∙ ap (λ (b : Bool). filter (counts fibre) (range_with_len first (strip - first)) ++ cond b (strip ∷ []) []) e))))));
+      }
+  more_by false e =
+      record {
+        long = simp length-set so_far.long;
+        few = omega (arith, so_far.few);
+        here =
+            ap (λ (n : ℕ). take n (set row count (get_or values strip 0))) (add-zero count)
+            ∙ (take-set row count (get_or values strip 0)
+            ∙ (so_far.here
+            ∙ ap (map (λ s. get_or values s 0))
+            (sym (ap (λ (n : ℕ). filter (counts fibre) (range_with_len first n)) one_on
+            ∙ (kept_more (counts fibre) first (strip - first) strip back
+            ∙ (ap (λ (b : Bool). filter (counts fibre) (range_with_len first (strip - first)) ++ cond b (strip ∷ []) []) e
+            ∙ append-nil (filter (counts fibre) (range_with_len first (strip - first)))))))));
+      }
 
--- on an enabled chip a strip counts where it is valid
-pub counts_as_valid : (fibre : FibreSettings) (side : Side) (first s : ℕ) (b : Bool) → first ≡ 128 * side_number side → first ≤ s → s < first + 128
-    → enabled fibre.enable side ≡ true → (of_strip fibre s).valid ≡ b → counts fibre s ≡ b
-counts_as_valid fibre side first s b at low high on is =
-    counts_valid fibre side s (on_chip side s (omega arith) (omega arith)) on ∙ is
+pub gathered_more : (fibre : FibreSettings) (side : Side) (values row : List ℕ) (first strip count : ℕ) → first ≡ 128 * side_number side
+    → enabled fibre.enable side ≡ true → first ≤ strip → strip < first + 128 → Gathered fibre values row first strip count
+    → Gathered fibre values (set row count (get_or values strip 0)) first (strip + 1) (count + bool_byte ((of_strip fibre strip).valid))
+gathered_more fibre side values row first strip count at on low high so_far =
+    more_by fibre values row first strip count so_far low high ((of_strip fibre strip).valid)
+    (counts_valid fibre side strip (on_chip side strip (omega arith) (omega arith)) on)
 
-pub gathered_all : (fibre : FibreSettings) (side : Side) (values got : List ℕ) (first strip : ℕ) → first ≡ 128 * side_number side
-    → strip ≡ first + 128 → Gathered fibre values got first strip
-    → got ≡ counted_values fibre side values
+pub gathered_all : (fibre : FibreSettings) (side : Side) (values row : List ℕ) (first strip count : ℕ) → first ≡ 128 * side_number side
+    → strip ≡ first + 128 → Gathered fibre values row first strip count
+    → take count row ≡ map (λ s. get_or values s 0) (counted_strips fibre side)
 unfolding counted_strips
-gathered_all fibre side values got first strip at end so_far =
+gathered_all fibre side values row first strip count at end so_far =
     let all : strip - first ≡ 128 = omega arith in
-    so_far ∙ ap (map (λ s. get_or values s 0)) (ap (λ (n : ℕ). filter (counts fibre) (range_with_len first n)) all ∙ ap (λ (a : ℕ). filter (counts fibre) (range_with_len a 128)) at)
+    so_far.here ∙ ap (map (λ s. get_or values s 0)) (ap (λ (n : ℕ). filter (counts fibre) (range_with_len first n)) all ∙ ap (λ (a : ℕ). filter (counts fibre) (range_with_len a 128)) at)

@@ -18,17 +18,20 @@ fn counted_values(
 ) -> ArrayVec<u16, CHIP_STRIPS>
     ensures { result.items ≡ counted_values settings.now side flats.now.values }
 {
-    let mut values = ArrayVec::new();
     if !settings.enable.has(side) {
-        return values;
+        return ArrayVec::new();
     }
     let first = first_strip(side);
+    let mut row = [0; CHIP_STRIPS];
+    let mut count = 0;
+    // With no branch on the valid flag, which follows no pattern: each value is written behind those that counted
+    // before, and the next one goes over it if its strip does not count.
     for strip in first..first + CHIP_STRIPS {
-        let valid = settings.strips[strip].valid;
-        if valid {
-            values.push(flats.values[strip]);
-        }
+        row[count] = flats.values[strip];
+        count += settings.strips[strip].valid as usize;
     }
+    let mut values = ArrayVec::from(row);
+    values.truncate(count);
     values
 }
 
