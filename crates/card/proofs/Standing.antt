@@ -56,6 +56,6 @@ capture_stands rows (Some c) =
       columns = All-map IsColumn g places (every (λ place. IsColumn (g place)) (a_column rows) places);
     }
 
-pub capture_within : (rows : List Row) (o : Option Capture) → IfSome (capture_in (rows_in rows) o) (λ c. c.position ≤ 279)
+pub capture_within : (rows : List (List ℕ)) (o : Option Capture) → IfSome (capture_in rows o) (λ c. c.position ≤ 279)
 capture_within rows None = tt
 capture_within rows (Some c) = c.inside

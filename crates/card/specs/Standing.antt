@@ -15,7 +15,7 @@ InReach w = (lowest w.state ≤ position w.state) × (position w.state ≤ highe
 abbrev pub IsColumn : List ℕ → Type 0
 IsColumn column = (length column ≡ 12) × AllByRecursion TenBits column
 
--- a capture is not past its last position, and has a column for each position from the first sample's on
+-- a capture is not past its last position, and has a column for each position before its own, from the first sample's on
 pub record Captured (c : Capture) : Type 0 where
   pub within : c.position ≤ 279
   pub many : length c.columns ≡ c.position - first_sample

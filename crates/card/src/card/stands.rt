@@ -10,7 +10,8 @@ use stores::Store;
 
 impl<R: Rule + Drop, S: Store + Drop> Card<R, S> {
     // Its store is as every store, at most 255 events wait, each ticker holds a position that its state can hold,
-    // and a capture is not past the last position and has ten-bit samples of all fibres, as many as it has had.
+    // and a capture is not past the last position and has ten-bit samples of all fibres for each position before its
+    // own, from the first sample's on.
     pub fn stands(&self)
         ensures store { Sound self.now.state.readout.room self.now.state.readout.lists }
         ensures waiting { length self.now.state.readout.events ≤ 255 }

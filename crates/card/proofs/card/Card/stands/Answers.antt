@@ -1,5 +1,5 @@
 use Rattle.std.proofs.Common.{◌≤◌, length, arith}
-use Rattle.card.specs.Abstraction.{state_of}
+use Rattle.card.specs.Abstraction.{rows_in, state_of}
 use Rattle.card.proofs.Standing.{all_in_reach, capture_within, capture_stands}
 use Rattle.card.proofs.card.Card.stands.Goals as goal
 
@@ -19,7 +19,7 @@ returns-clause-tickers g c = rw (← c.self.view_is) (all_in_reach c.self.inside
 
 pub returns-clause-capture : goal.returns-clause-capture
 unfolding state_of
-returns-clause-capture g c = rw (← c.self.view_is) (capture_within c.self.inside.core.rows c.self.inside.core.capture)
+returns-clause-capture g c = rw (← c.self.view_is) (capture_within (rows_in c.self.inside.core.rows) c.self.inside.core.capture)
 
 pub returns-clause-samples : goal.returns-clause-samples
 unfolding state_of
